@@ -1,0 +1,9 @@
+-- Laws that the proofs of the functions cite, and those that callers need; examples; uniqueness.
+pub mod Lists
+pub mod Seeking
+pub mod Trimming
+pub mod Numbers
+pub mod Sign
+pub mod Naming
+pub mod Examples
+pub mod Unique

@@ -1,0 +1,47 @@
+-- What private helpers answer, for their own contracts: no public contract cites these.
+use Prim.Native.Nat.{ℕ, suc, _+_}
+use Prim.Native.Char.{code}
+use mathlib.Core.List.{List, [], _∷_}
+use mathlib.Core.Option.{Option, none, some}
+use lib.Dec.{leb, eqb}
+use Rattle.lexis.specs.Text.{Text, if_then_else_, same}
+use Rattle.lexis.specs.Numeral.{number}
+use Rattle.lexis.specs.declared.numeral.Magnitude.{Magnitude}
+use Rattle.lexis.specs.declared.numeral.Magnitude.the-variants.{Of, NoDigits}
+use Rattle.lexis.specs.declared.numeral.Size.{Size}
+use Rattle.lexis.specs.declared.numeral.Size.the-variants.{Plus, Minus, Senseless}
+
+-- a number of at most `most`
+abbrev pub under : ℕ → Option ℕ → Magnitude
+under most none = NoDigits
+under most (some n) = if leb n most then Of n else NoDigits
+
+abbrev pub positive : Magnitude → Size
+positive (Of n) = Plus n
+positive NoDigits = Senseless
+
+abbrev pub negative : Magnitude → Size
+negative (Of n) = Minus n
+negative NoDigits = Senseless
+
+-- the sign and the magnitude of a numeral, from -(most + 1) to most
+abbrev pub sized : ℕ → Text → Size
+sized most [] = Senseless
+sized most (b ∷ s) =
+    if eqb b (code "-") then negative (under (most + 1) (number s))
+    else if eqb b (code "+") then positive (under most (number s))
+    else positive (under most (number (b ∷ s)))
+
+-- the entries between the commas, one more than there are commas
+abbrev pub onto : ℕ → List Text → List Text
+onto b [] = (b ∷ []) ∷ []
+onto b (e ∷ es) = (b ∷ e) ∷ es
+
+abbrev pub split : Text → List Text
+split [] = [] ∷ []
+split (b ∷ s) = if eqb (code ",") b then [] ∷ split s else onto b (split s)
+
+-- the first place of s among es, or how many they are
+abbrev pub which : Text → List Text → ℕ
+which s [] = 0
+which s (e ∷ es) = if same e s then 0 else suc (which s es)

@@ -1,0 +1,22 @@
+// Numerals, trimming, scalar names and byte search: what the readers stand on. Nothing here knows a type.
+mod numeral;
+mod scalar;
+mod text;
+
+pub use numeral::Number32;
+pub use numeral::Number64;
+pub use numeral::parse_i32;
+pub use numeral::parse_i64;
+pub use scalar::Named;
+pub use scalar::Scalar;
+pub use scalar::parse_scalar;
+pub use text::Found;
+pub use text::begins;
+pub use text::contains;
+pub use text::find;
+pub use text::same;
+pub use text::trim;
+pub use text::trim_end_matches;
+pub use text::trim_start_matches;
+pub use text::until;
+pub use text::white;

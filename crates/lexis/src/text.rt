@@ -1,0 +1,157 @@
+// Seeking and trimming.
+ghost use mathlib.Core.Path.{_≡_};
+ghost use lib.Dec.{eqb};
+ghost use lib.ListN.{drop, length};
+ghost use Rattle.lexis.specs.Text.{same, begins, cut, place, spot, occurs, until};
+ghost use Rattle.lexis.specs.Text.{less-leading, less-trailing, white, trim};
+
+// Where a text first occurs.
+pub enum Found {
+    At(usize),
+    Nowhere,
+}
+
+// Whether `what` stands in `text` at the place `at`.
+fn stands(text: &[u8], what: &[u8], at: usize) -> bool
+    ensures { λ r. ⌜ r ≡ begins (now (what .entry)) (drop at (now (text .entry))) ⌝ }
+{
+    let mut k = at;
+    let mut j = 0;
+    while j < what.len() {
+        if text.len() <= k {
+            return false;
+        }
+        if what[j] != text[k] {
+            return false;
+        }
+        k += 1;
+        j += 1;
+    }
+    true
+}
+
+// Whether `text` begins with `what`.
+pub fn begins(text: &[u8], what: &[u8]) -> bool
+    ensures { λ r. ⌜ r ≡ begins (now (what .entry)) (now (text .entry)) ⌝ }
+{
+    stands(text, what, 0)
+}
+
+// Whether the two hold the same bytes.
+pub fn same(a: &[u8], b: &[u8]) -> bool
+    ensures { λ r. ⌜ r ≡ same (now (a .entry)) (now (b .entry)) ⌝ }
+{
+    if a.len() != b.len() {
+        return false;
+    }
+    stands(b, a, 0)
+}
+
+// The first place of `what` in `text`; of nothing, the place 0.
+pub fn find(text: &[u8], what: &[u8]) -> Found
+    ensures { λ r. ⌜ spot r ≡ place (cut (now (what .entry)) (now (text .entry))) ⌝ }
+{
+    let mut i = 0;
+    while i < text.len() {
+        if stands(text, what, i) {
+            return Found::At(i);
+        }
+        i += 1;
+    }
+    if stands(text, what, i) {
+        return Found::At(i);
+    }
+    Found::Nowhere
+}
+
+// Whether `what` occurs in `text`.
+pub fn contains(text: &[u8], what: &[u8]) -> bool
+    ensures { λ r. ⌜ r ≡ occurs (now (what .entry)) (now (text .entry)) ⌝ }
+{
+    match find(text, what) {
+        Found::At(_) => true,
+        Found::Nowhere => false,
+    }
+}
+
+// How many bytes stand before the first `b`: all, where there is none.
+pub fn until(text: &[u8], b: u8) -> usize
+    ensures { λ r. ⌜ r ≡ length (until (eqb b) (now (text .entry))) ⌝ }
+{
+    let mut i = 0;
+    while i < text.len() {
+        if text[i] == b {
+            return i;
+        }
+        i += 1;
+    }
+    i
+}
+
+// Whether trimming drops the byte: 9 to 13 and 32, so VT (11) too.
+pub fn white(b: u8) -> bool
+    ensures { λ r. ⌜ r ≡ white b ⌝ }
+{
+    (9 <= b) & (b <= 13) | (b == 32)
+}
+
+fn trim_start(text: &[u8]) -> &[u8]
+    ensures { λ r. ⌜ now r ≡ less-leading white (now (text .entry)) ⌝ }
+{
+    let mut i = 0;
+    while i < text.len() {
+        if !white(text[i]) {
+            return &text[i..];
+        }
+        i += 1;
+    }
+    &text[i..]
+}
+
+fn trim_end(text: &[u8]) -> &[u8]
+    ensures { λ r. ⌜ now r ≡ less-trailing white (now (text .entry)) ⌝ }
+{
+    let mut e = text.len();
+    while 0 < e {
+        if !white(text[e - 1]) {
+            return &text[..e];
+        }
+        e -= 1;
+    }
+    &text[..e]
+}
+
+// `text` with no white byte at its ends.
+pub fn trim(text: &[u8]) -> &[u8]
+    ensures { λ r. ⌜ now r ≡ trim (now (text .entry)) ⌝ }
+{
+    trim_end(trim_start(text))
+}
+
+// `text` with no `b` in front.
+pub fn trim_start_matches(text: &[u8], b: u8) -> &[u8]
+    ensures { λ r. ⌜ now r ≡ less-leading (eqb b) (now (text .entry)) ⌝ }
+{
+    let mut i = 0;
+    while i < text.len() {
+        if text[i] != b {
+            return &text[i..];
+        }
+        i += 1;
+    }
+    &text[i..]
+}
+
+// `text` with no `b` behind.
+pub fn trim_end_matches(text: &[u8], b: u8) -> &[u8]
+    ensures { λ r. ⌜ now r ≡ less-trailing (eqb b) (now (text .entry)) ⌝ }
+{
+    let mut e = text.len();
+    while 0 < e {
+        if text[e - 1] != b {
+            return &text[..e];
+        }
+        e -= 1;
+    }
+    &text[..e]
+}

@@ -1,0 +1,7 @@
+pub mod Blanks
+pub mod Normality
+pub mod Unique
+pub mod Open
+pub mod Answers
+pub mod Rows
+mod Slips

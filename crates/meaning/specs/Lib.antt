@@ -1,0 +1,8 @@
+-- The definitions that people must believe, in the order of document 01.
+pub mod Refusals
+pub mod Normal
+pub mod Parts
+pub mod Found
+pub mod Tile
+pub mod Views
+pub mod Ordinary

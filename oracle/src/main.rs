@@ -1,0 +1,173 @@
+//! The original `Type::parse`, run beside a plain second reading of the same texts.
+
+mod agree;
+mod answer;
+#[cfg(has_source)]
+mod bytecode;
+mod clauses;
+mod compare;
+mod damage;
+mod dice;
+mod escape;
+mod exhaust;
+mod forms;
+mod generate;
+#[cfg(has_source)]
+mod ir;
+mod list;
+#[rustfmt::skip]
+mod nasty;
+mod original;
+#[rustfmt::skip]
+mod pieces;
+mod plain;
+#[cfg(has_source)]
+mod requirements;
+#[rustfmt::skip]
+mod rows;
+mod scalar;
+mod shown;
+mod table;
+
+use std::env;
+use std::fs;
+use std::io::{self, Write};
+use std::path::{Path, PathBuf};
+use std::process::ExitCode;
+
+const HELP: &str = "\
+oracle: the original Type::parse, run beside a plain second reading of the same texts
+
+  oracle answer [--plain|--original]   answers for the texts of standard input, one per line
+                                       (escapes \\\\ and \\xHH); by default both are read, and a
+                                       difference is noted
+  oracle agree COUNT [SEED]            both readings on COUNT generated texts and all short ones
+  oracle list [FILE]                   writes the fixed list anew
+  oracle check-list [FILE]             checks every row of the list, and that it would be written so
+  oracle table DIR                     writes DIR/Part1.antt, DIR/Part2.antt, ...
+  oracle check-table DIR               checks that the parts in DIR are what `table` writes
+  oracle scalars                       widths, kinds and bits of the 16 scalars
+
+FILE is list.txt beside this crate's Cargo.toml unless named. `--original`, `agree` and `list` need
+the original source, found at build time: CUTILE_IR_SRC names the folder that holds
+src/ir/types.rs. The other commands also hold it beside the plain reading where it is there.
+Exit: 0 all is well, 1 something differs or can't be done, 2 the command isn't understood.
+";
+
+/// What went wrong, and so which number the program ends with.
+enum Failure {
+    Usage(String),
+    Failed(String),
+}
+
+impl From<String> for Failure {
+    fn from(why: String) -> Failure {
+        Failure::Failed(why)
+    }
+}
+
+impl From<io::Error> for Failure {
+    fn from(why: io::Error) -> Failure {
+        Failure::Failed(why.to_string())
+    }
+}
+
+fn main() -> ExitCode {
+    let words: Vec<String> = env::args().skip(1).collect();
+    let words: Vec<&str> = words.iter().map(String::as_str).collect();
+    let mut out = io::BufWriter::new(io::stdout().lock());
+    let done = run(&words, &mut out).and_then(|()| Ok(out.flush()?));
+    match done {
+        Ok(()) => ExitCode::SUCCESS,
+        Err(Failure::Failed(why)) => {
+            let _ = out.flush();
+            eprintln!("oracle: {why}");
+            ExitCode::from(1)
+        }
+        Err(Failure::Usage(why)) => {
+            eprintln!("oracle: {why}; `oracle --help` lists the commands");
+            ExitCode::from(2)
+        }
+    }
+}
+
+fn run(words: &[&str], out: &mut dyn Write) -> Result<(), Failure> {
+    if words.iter().any(|word| matches!(*word, "--help" | "-h")) {
+        return Ok(out.write_all(HELP.as_bytes())?);
+    }
+    match words {
+        ["answer"] => shown::answers(out, shown::Which::Both)?,
+        ["answer", "--plain"] => shown::answers(out, shown::Which::Plain)?,
+        ["answer", "--original"] => shown::answers(out, shown::Which::Original)?,
+        ["agree", count] => agree(out, count, "1")?,
+        ["agree", count, seed] => agree(out, count, seed)?,
+        ["list"] => list(out, &list_path())?,
+        ["list", file] => list(out, Path::new(file))?,
+        ["check-list"] => check_list(out, &list_path())?,
+        ["check-list", file] => check_list(out, Path::new(file))?,
+        ["table", folder] => table(out, Path::new(folder), false)?,
+        ["check-table", folder] => table(out, Path::new(folder), true)?,
+        ["scalars"] => shown::scalars(out)?,
+        [] => return Err(Failure::Usage("no command".to_string())),
+        _ => {
+            return Err(Failure::Usage(format!(
+                "`{}` isn't understood",
+                words.join(" ")
+            )))
+        }
+    }
+    Ok(())
+}
+
+fn list_path() -> PathBuf {
+    Path::new(env!("CARGO_MANIFEST_DIR")).join("list.txt")
+}
+
+fn number(word: &str) -> Result<u64, Failure> {
+    let told = |_| Failure::Usage(format!("`{word}` isn't a number"));
+    word.parse().map_err(told)
+}
+
+fn agree(out: &mut dyn Write, count: &str, seed: &str) -> Result<(), Failure> {
+    let (count, seed) = (number(count)?, number(seed)?);
+    original::needed()?;
+    Ok(agree::agree(out, count, seed)?)
+}
+
+fn list(out: &mut dyn Write, path: &Path) -> Result<(), Failure> {
+    original::needed()?;
+    let (file, rows) = list::written()?;
+    fs::write(path, file).map_err(|why| format!("{}: {why}", path.display()))?;
+    Ok(writeln!(out, "{rows} rows written")?)
+}
+
+/// Which readings a check has held its rows against.
+fn against() -> &'static str {
+    match original::PRESENT {
+        true => "against the plain reading and the original",
+        false => "against the plain reading alone, as the original source is absent",
+    }
+}
+
+fn check_list(out: &mut dyn Write, path: &Path) -> Result<(), Failure> {
+    let file = fs::read_to_string(path).map_err(|why| format!("{}: {why}", path.display()))?;
+    let rows = list::check(&file)?;
+    Ok(writeln!(out, "{rows} rows checked {}", against())?)
+}
+
+fn table(out: &mut dyn Write, folder: &Path, check: bool) -> Result<(), Failure> {
+    let table = table::Table::new()?;
+    let done = if check {
+        table.check(folder)?;
+        "checked"
+    } else {
+        table.write(folder)?;
+        "written"
+    };
+    let (rows, files) = (table.rows, table.files.len());
+    Ok(writeln!(
+        out,
+        "{rows} rows in {files} files {done} {}",
+        against()
+    )?)
+}
