@@ -4,6 +4,7 @@ pub mod Seeking
 pub mod Trimming
 pub mod Numbers
 pub mod Sign
+pub mod Splitting
 pub mod Naming
 pub mod Examples
 pub mod Unique

@@ -8,73 +8,30 @@ use native.Mathlib.Numerals.{add-one}
 use native.Mathlib.Omega.{arith}
 use lib.Dec.{eqb}
 use lib.ListN.{length, take, drop, getD, length-drop}
-use Rattle.lexis.specs.Text.{Text, bytes, if_then_else_, same, until, trim}
+use Rattle.lexis.specs.Text.{Text, bytes, if_then_else_, same, until, split, trim}
 use Rattle.lexis.specs.Names.{Name, names, named-in, scalar-name}
-use Rattle.lexis.specs.Parts.{onto, split, which}
+use Rattle.lexis.specs.Parts.{which}
 use Rattle.lexis.specs.declared.scalar.Scalar.{Scalar}
 use Rattle.lexis.proofs.Lists.{rest}
-use Rattle.lexis.proofs.Seeking.{until-within, until-take}
+use Rattle.lexis.proofs.Seeking.{until-take}
+use Rattle.lexis.proofs.Splitting.{split-more, split-last, split-some}
 
--- ── the entries of a table ──
+-- ── the entries of a table, which commas part ──
 
-abbrev entry : Text → Text
-entry t = until (eqb 44) t
-
-split-more : (t : List ℕ) → length (entry t) < length t → split t ≡ entry t ∷ split (drop (suc (length (entry t))) t)
-split-more [] h = let f : ⊥ = omega arith in absurd f
-split-more (b ∷ t) h = by (eqb 44 b) (split-more t) h
-  where
-    by : (d : Bool) → (length (entry t) < length t → split t ≡ entry t ∷ split (drop (suc (length (entry t))) t))
-        → length (if d then [] else b ∷ entry t) < suc (length t)
-        → if d then [] ∷ split t else onto b (split t) ≡ (if d then [] else b ∷ entry t) ∷ split (drop (length (if d then [] else b ∷ entry t)) t)
-    by true e k = refl
-    by false e k = ap (onto b) (e (omega arith))
-
-split-last : (t : List ℕ) → length t ≤ length (entry t) → split t ≡ entry t ∷ []
-split-last [] h = refl
-split-last (b ∷ t) h = by (eqb 44 b) (split-last t) h
-  where
-    by : (d : Bool) → (length t ≤ length (entry t) → split t ≡ entry t ∷ [])
-        → suc (length t) ≤ length (if d then [] else b ∷ entry t)
-        → if d then [] ∷ split t else onto b (split t) ≡ (if d then [] else b ∷ entry t) ∷ []
-    by true e k = let f : ⊥ = omega arith in absurd f
-    by false e k = ap (onto b) (e (omega arith))
-
--- the first entry, whatever follows
-abbrev tail : List Text → List Text
-tail [] = []
-tail (e ∷ es) = es
-
-split-some : (t : List ℕ) → split t ≡ entry t ∷ tail (split t)
-split-some [] = refl
-split-some (b ∷ t) = by (eqb 44 b) (split-some t)
-  where
-    by : (d : Bool) → split t ≡ entry t ∷ tail (split t)
-        → if d then [] ∷ split t else onto b (split t) ≡ (if d then [] else b ∷ entry t) ∷ tail (if d then [] ∷ split t else onto b (split t))
-    by true e = refl
-    by false e = rw e
-
-module _ (s t : List ℕ) (n k : ℕ) (e : k ≡ length (entry t)) where
-  pub hit : same (take k t) s ≡ true → n + which s (split t) ≡ n
-  hit h = let g : same (entry t) s ≡ true = rw (← until-take (eqb 44) t, ← e) h in rw (split-some t, g) (omega arith)
+module _ (s t : List ℕ) (n k : ℕ) (e : k ≡ length (until (eqb 44) t)) where
+  pub hit : same (take k t) s ≡ true → n + which s (split 44 t) ≡ n
+  hit h = let g : same (until (eqb 44) t) s ≡ true = rw (← until-take (eqb 44) t, ← e) h in rw (split-some 44 t, g) (omega arith)
 
   pub miss : k < length t → same (take k t) s ≡ false
-      → n + which s (split t) ≡ (n + 1) + which s (split (take (length t - (k + 1)) (drop (k + 1) t)))
+      → n + which s (split 44 t) ≡ (n + 1) + which s (split 44 (take (length t - (k + 1)) (drop (k + 1) t)))
   miss l h =
-      let g : same (entry t) s ≡ false = rw (← until-take (eqb 44) t, ← e) h in
-      rw (rest t (k + 1), add-one k, e, split-more t (rw e at l), g) (omega arith)
+      let g : same (until (eqb 44) t) s ≡ false = rw (← until-take (eqb 44) t, ← e) h in
+      rw (rest t (k + 1), add-one k, e, split-more 44 t (rw e at l), g) (omega arith)
 
-  pub gone : length t ≤ k → same (take k t) s ≡ false → n + which s (split t) ≡ n + 1
+  pub gone : length t ≤ k → same (take k t) s ≡ false → n + which s (split 44 t) ≡ n + 1
   gone l h =
-      let g : same (entry t) s ≡ false = rw (← until-take (eqb 44) t, ← e) h in
-      rw (split-last t (rw e at l), g) (omega arith)
-
-module _ (t : List ℕ) (k : ℕ) where
-  pub short : k ≡ length (entry t) → k ≤ length t
-  short e = rw e (until-within (eqb 44) t)
-
-  pub less : k < length t → length (take (length t - (k + 1)) (drop (k + 1) t)) < length t
-  less h = rw (rest t (k + 1), length-drop) (omega arith)
+      let g : same (until (eqb 44) t) s ≡ false = rw (← until-take (eqb 44) t, ← e) h in
+      rw (split-last 44 t (rw e at l), g) (omega arith)
 
 -- ── the table of names ──
 
@@ -110,7 +67,7 @@ abbrev table : Text
 table = bytes "i1,i4,i8,i16,i32,i64,f16,bf16,f32,tf32,f64,f8E4M3FN,f8e4m3fn,f8E5M2,f8e5m2,f8E8M0FNU,f8e8m0fnu,f4E2M1FN,f4e2m1fn,f8E5M3FNU,f8e5m3fnu,bool"
 
 -- the search for s, which is a text t trimmed, answered n
-module _ (s t : Text) {n : ℕ} (e : n ≡ which s (split table)) (q : s ≡ trim t) where
+module _ (s t : Text) {n : ℕ} (e : n ≡ which s (split 44 table)) (q : s ≡ trim t) where
   pub named : (d : Scalar) → n < 22 → some (getD (scalars names) n d) ≡ scalar-name t
   unfolding scalar-name
   named d h = ap (λ (k : ℕ). some (getD (scalars names) k d)) e ∙ known names s d (rw e at h) ∙ ap (named-in names) q

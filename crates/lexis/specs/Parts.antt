@@ -32,15 +32,6 @@ sized most (b ∷ s) =
     else if eqb b (code "+") then positive (under most (number s))
     else positive (under most (number (b ∷ s)))
 
--- the entries between the commas, one more than there are commas
-abbrev pub onto : ℕ → List Text → List Text
-onto b [] = (b ∷ []) ∷ []
-onto b (e ∷ es) = (b ∷ e) ∷ es
-
-abbrev pub split : Text → List Text
-split [] = [] ∷ []
-split (b ∷ s) = if eqb (code ",") b then [] ∷ split s else onto b (split s)
-
 -- the first place of s among es, or how many they are
 abbrev pub which : Text → List Text → ℕ
 which s [] = 0

@@ -82,6 +82,17 @@ abbrev pub until : (ℕ → Bool) → Text → Text
 until p [] = []
 until p (b ∷ s) = if p b then [] else b ∷ until p s
 
+-- ── splitting ──
+
+abbrev pub onto-first : ℕ → List Text → List Text
+onto-first b [] = (b ∷ []) ∷ []
+onto-first b (p ∷ ps) = (b ∷ p) ∷ ps
+
+-- the parts of s between the bytes x: one at least
+abbrev pub split : ℕ → Text → List Text
+split x [] = [] ∷ []
+split x (b ∷ s) = if eqb x b then [] ∷ split x s else onto-first b (split x s)
+
 -- ── trimming ──
 
 -- s without its leading bytes that pass the test

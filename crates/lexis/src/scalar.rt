@@ -2,7 +2,8 @@
 ghost use mathlib.Core.Path.{_≡_};
 ghost use mathlib.Core.Bool.{not};
 ghost use Rattle.lexis.specs.Names.{scalar-name, said, byte-width, integer, bit-width};
-ghost use Rattle.lexis.specs.Parts.{split, which};
+ghost use Rattle.lexis.specs.Parts.{which};
+ghost use Rattle.lexis.specs.Text.{split};
 use super::text::same;
 use super::text::trim;
 use super::text::until;
@@ -116,7 +117,7 @@ impl Scalar {
 
 // The place of `name` among the entries of `table`, which commas part, or how many they are.
 fn which(name: &[u8], table: &[u8]) -> usize
-    ensures { λ r. ⌜ r ≡ which (now (name .entry)) (split (now (table .entry))) ⌝ }
+    ensures { λ r. ⌜ r ≡ which (now (name .entry)) (split 44 (now (table .entry))) ⌝ }
 {
     let mut t = table;
     let mut n = 0;

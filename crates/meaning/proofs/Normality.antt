@@ -11,7 +11,7 @@ use borrow.Author.Tests.{le-leb}
 use lib.Dec.{leb}
 use lib.IntN.{ℤ}
 use lib.ListN.{length, drop}
-use Rattle.lexis.specs.Text.{Text, bytes, if_then_else_, same, trim, Cut, nowhere, at, cut}
+use Rattle.lexis.specs.Text.{Text, bytes, if_then_else_, same, trim, split, Cut, nowhere, at, cut}
 use Rattle.lexis.specs.Names.{scalar-name}
 use Rattle.lexis.specs.declared.scalar.Scalar.{Scalar}
 use Rattle.meaning.specs.declared.Kind.the-variants as K
@@ -19,7 +19,7 @@ use Rattle.meaning.specs.declared.normal.Uses.{Uses}
 use Rattle.meaning.specs.declared.Refusal.{Refusal}
 use Rattle.meaning.specs.declared.Refusal.the-variants.{TooLong, HighByte, NoType, TooMany}
 use Rattle.meaning.specs.Normal.{all-zero, uses, clear, lists-clear, rest-blank, normal}
-use Rattle.meaning.specs.Parts.{each, split, last, front, bracketed, less-repeats, remove}
+use Rattle.meaning.specs.Parts.{each, last, front, bracketed, less-repeats, remove}
 use Rattle.meaning.specs.Found.{Clause, values, padded, Found, flat, within, made, unused, plain, token, with-attribute}
 use Rattle.meaning.specs.Tile as T
 use Rattle.meaning.specs.Tile.{Tensor}

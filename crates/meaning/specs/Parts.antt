@@ -1,4 +1,4 @@
--- Splitting, brackets and marks (01, modules 3, 4 and 7).
+-- Parts, brackets and marks (01, modules 3, 4 and 7).
 use Prim.Native.Nat.{ℕ, zero, suc, _-_}
 use Prim.Native.Char.{code}
 use mathlib.Core.Bool.{Bool, true, false}
@@ -13,16 +13,7 @@ abbrev pub each : {A B : Type 0} → (A → B) → Option A → Option B
 each f none = none
 each f (some a) = some (f a)
 
--- ── splitting ──
-
-abbrev pub onto-first : ℕ → List Text → List Text
-onto-first b [] = (b ∷ []) ∷ []
-onto-first b (p ∷ ps) = (b ∷ p) ∷ ps
-
--- the parts of s between the bytes x: one at least
-abbrev pub split : ℕ → Text → List Text
-split x [] = [] ∷ []
-split x (b ∷ s) = if eqb b x then [] ∷ split x s else onto-first b (split x s)
+-- ── parts of a text ──
 
 -- the last part, and those before it
 abbrev pub last : List Text → Text

@@ -8,9 +8,9 @@ use mathlib.Core.Option.{Option, none, some}
 use lib.Dec.{eqb}
 use lib.IntN.{ℤ, pos}
 use lib.ListN.{length, replicate}
-use Rattle.lexis.specs.Text.{Text, bytes, if_then_else_, trim, until, Cut, nowhere, at, cut, occurs}
+use Rattle.lexis.specs.Text.{Text, bytes, if_then_else_, trim, until, split, Cut, nowhere, at, cut, occurs}
 use Rattle.lexis.specs.Numeral.{numeral}
-use Rattle.meaning.specs.Parts.{each, split, between, close}
+use Rattle.meaning.specs.Parts.{each, between, close}
 use Rattle.meaning.specs.Found.{Entry, Clause, stands, filled, Found, made, unused}
 use Rattle.meaning.specs.Tile.{read-or, Tensor, tensor}
 use Rattle.meaning.specs.declared.Kind.{Kind}
@@ -35,8 +35,8 @@ abbrev pub _or_ : Cut → Option Text → Option Text
 nowhere or o = o
 
 -- where the inner tensor view opens; `behind` is what follows the tile's `)`
-unfoldable pub inner : Text → Text → Option Text
-inner s behind =
+unfoldable pub opened : Text → Text → Option Text
+opened s behind =
     cut (bytes "tensor_view=!cuda_tile.tensor_view<") s or
     cut (bytes "!cuda_tile.tensor_view<") s or
     cut (bytes "tensor_view<") behind or none
@@ -69,7 +69,7 @@ pub record View : Type 0 where
 -- by the first `tile=(` and the next `)`
 abbrev pub view-by : Text → Cut → Option View
 view-by s nowhere = none
-view-by s (at u behind) = each (λ v. record { tile = tile-entries u; tensor = v; padding = padding s }) (inner-by (inner s behind))
+view-by s (at u behind) = each (λ v. record { tile = tile-entries u; tensor = v; padding = padding s }) (inner-by (opened s behind))
 
 unfoldable pub view : Text → Option View
 view s = view-by s (between (bytes "tile=(") (bytes ")") s)
