@@ -22,12 +22,12 @@ rows =
     row "tensor_view<4xf32>" (type K.TensorView F32 false false (pos 4 ∷ []) (DYN ∷ []) [] [] [] (pos 0) Absent 0 0 0 1) ∷
     row "partition_view<tile=(), tensor_view<f32>>" (type K.Partition F32 false false [] [] (pos 1 ∷ []) (pos 0 ∷ []) [] (pos 0) Absent 0 1 0 1) ∷
     row "gather_scatter_view<tile=(2), tensor_view<4xf32, strides=[1]>, sparse_dim=one>"
-      (type K.GatherScatter F32 false false (pos 4 ∷ []) (pos 1 ∷ []) (pos 2 ∷ []) [] [] (pos 0) Absent 0 0 1 0) ∷
+    (type K.GatherScatter F32 false false (pos 4 ∷ []) (pos 1 ∷ []) (pos 2 ∷ []) [] [] (pos 0) Absent 0 0 1 0) ∷
     row "token, #cuda_tile.ptr_a, #cuda_tile.ptr_attr<none>ttr<none>" (type K.Token I1 false true [] [] [] [] [] (pos 0) Absent 0 0 0 0) ∷
     row ", #cuda_tile.ptr_attr<none>" (refused NoType 0) ∷
     row "tile<-9223372036854775808xf32>" (type K.Tile F32 false false (DYN ∷ []) [] [] [] [] (pos 0) Absent 0 0 0 0) ∷
     row "partition_view<tile=(4x8), tensor_view<?x16xf32, strides=[16, 1]>, dim_map=[1,0]>"
-      (type K.Partition F32 false false (DYN ∷ pos 16 ∷ []) (pos 16 ∷ pos 1 ∷ []) (pos 4 ∷ pos 8 ∷ []) (pos 1 ∷ pos 0 ∷ []) [] (pos 0) Absent 0 0 0 0) ∷ []
+    (type K.Partition F32 false false (DYN ∷ pos 16 ∷ []) (pos 16 ∷ pos 1 ∷ []) (pos 4 ∷ pos 8 ∷ []) (pos 1 ∷ pos 0 ∷ []) [] (pos 0) Absent 0 0 0 0) ∷ []
 
 rows-hold : L.map (reading 8 1024) (texts rows) ≡ answers rows
 unfolding reading

@@ -15,15 +15,15 @@ abbrev slips : List Row
 slips =
     -- absent traversal strides are 1, the absent map counts up
     row "strided_view<tile=(2x3), tensor_view<f32>>"
-      (type K.Strided F32 false false [] [] (pos 2 ∷ pos 3 ∷ []) (pos 0 ∷ pos 1 ∷ []) (pos 1 ∷ pos 1 ∷ []) (pos 0) Absent 0 0 0 2) ∷
+    (type K.Strided F32 false false [] [] (pos 2 ∷ pos 3 ∷ []) (pos 0 ∷ pos 1 ∷ []) (pos 1 ∷ pos 1 ∷ []) (pos 0) Absent 0 0 0 2) ∷
     -- an unclosed list is absent in a strided view, and refuses a partition view
     row "strided_view<tile=(2), tensor_view<f32>, dim_map=[1>" (type K.Strided F32 false false [] [] (pos 2 ∷ []) (pos 0 ∷ []) (pos 1 ∷ []) (pos 0) Absent 0 0 0 2) ∷
     row "partition_view<tile=(2), tensor_view<f32>, dim_map=[1>" (refused NoType 0) ∷
     -- `neg_zero` is not zero
     row "partition_view<tile=(2), padding_value=neg_zero, tensor_view<f32>, dim_map=[0]>"
-      (type K.Partition F32 false false [] [] (pos 2 ∷ []) (pos 0 ∷ []) [] (pos 0) NegZero 0 0 0 0) ∷
+    (type K.Partition F32 false false [] [] (pos 2 ∷ []) (pos 0 ∷ []) [] (pos 0) NegZero 0 0 0 0) ∷
     row "partition_view<tile=(2), padding_value=zero, tensor_view<f32>, dim_map=[0]>"
-      (type K.Partition F32 false false [] [] (pos 2 ∷ []) (pos 0 ∷ []) [] (pos 0) Zero 0 0 0 0) ∷
+    (type K.Partition F32 false false [] [] (pos 2 ∷ []) (pos 0 ∷ []) [] (pos 0) Zero 0 0 0 0) ∷
     -- a bracket is cut at the `>` that matches
     row "ptr<f<>f32>" (refused NoType 0) ∷
     row "tensor_view<4xf32, strides=[1<2>, 3]>" (type K.TensorView F32 false false (pos 4 ∷ []) (DYN ∷ pos 3 ∷ []) [] [] [] (pos 0) Absent 1 0 0 0) ∷
@@ -31,9 +31,9 @@ slips =
     row "\u{b}tile<\u{b}4\u{b}x f16\u{b}>" (type K.Tile F16 false false (pos 4 ∷ []) [] [] [] [] (pos 0) Absent 0 0 0 0) ∷
     -- numerals at the edges of their ranges
     row "tile<9223372036854775807x9223372036854775808x+07xi4>"
-      (type K.Tile I4 false false (pos 9223372036854775807 ∷ DYN ∷ pos 7 ∷ []) [] [] [] [] (pos 0) Absent 1 0 0 0) ∷
+    (type K.Tile I4 false false (pos 9223372036854775807 ∷ DYN ∷ pos 7 ∷ []) [] [] [] [] (pos 0) Absent 1 0 0 0) ∷
     row "gather_scatter_view<tile=(2147483647,-2147483648,2147483648), tensor_view<f32>, sparse_dim=-1>"
-      (type K.GatherScatter F32 false false [] [] (pos 2147483647 ∷ negsuc 2147483647 ∷ pos 1 ∷ []) [] [] (negsuc 0) Absent 0 1 0 0) ∷
+    (type K.GatherScatter F32 false false [] [] (pos 2147483647 ∷ negsuc 2147483647 ∷ pos 1 ∷ []) [] [] (negsuc 0) Absent 0 1 0 0) ∷
     -- `bool` is I1
     row "ptr< bool >" (type K.Pointer I1 false false [] [] [] [] [] (pos 0) Absent 0 0 0 0) ∷
     -- eight entries, and nine

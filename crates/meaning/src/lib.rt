@@ -1,8 +1,9 @@
 // Types as records and what the calls answer, as plain data by value (01, "Records and numbers").
 mod normal;
 
-pub use normal::{blank, is_normal};
 use lexis::Scalar;
+pub use normal::blank;
+pub use normal::is_normal;
 ghost use mathlib.Core.Path.{_≡_};
 ghost use Rattle.meaning.specs.Refusals.{number};
 

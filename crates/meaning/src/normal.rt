@@ -1,6 +1,9 @@
 // The blank record, and whether a record is normal (01, "Records and numbers").
+use crate::CAP;
+use crate::Kind;
+use crate::Padding;
+use crate::Record;
 use lexis::Scalar;
-use crate::{CAP, Kind, Padding, Record};
 ghost use mathlib.Core.Path.{_≡_};
 ghost use Rattle.lexis.specs.Text.{if_then_else_};
 ghost use Rattle.meaning.specs.Found.{flat, token};
@@ -186,12 +189,42 @@ fn used_by(k: Kind) -> Uses
         Kind::Partition => row(true, false, true, true, true, true, false, false, true),
         Kind::GatherScatter => row(true, false, true, true, true, false, false, true, true),
         Kind::Strided => row(true, false, true, true, true, true, true, false, true),
-        Kind::Token => row(false, false, false, false, false, false, false, false, false),
+        Kind::Token => row(
+            false,
+            false,
+            false,
+            false,
+            false,
+            false,
+            false,
+            false,
+            false,
+        ),
     }
 }
 
-fn row(element: bool, pointer: bool, shape: bool, strides: bool, tile: bool, map: bool, traversal: bool, sparse: bool, padding: bool) -> Uses
+fn row(
+    element: bool,
+    pointer: bool,
+    shape: bool,
+    strides: bool,
+    tile: bool,
+    map: bool,
+    traversal: bool,
+    sparse: bool,
+    padding: bool,
+) -> Uses
     ensures { λ r. ⌜ r ≡ row element pointer shape strides tile map traversal sparse padding ⌝ }
 {
-    Uses { element, pointer, shape, strides, tile, map, traversal, sparse, padding }
+    Uses {
+        element,
+        pointer,
+        shape,
+        strides,
+        tile,
+        map,
+        traversal,
+        sparse,
+        padding,
+    }
 }

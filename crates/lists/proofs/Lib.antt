@@ -1,0 +1,5 @@
+pub mod Entries
+pub mod Laying
+pub mod Filling
+pub mod Bounds
+pub mod Unique

@@ -1,0 +1,41 @@
+-- The list is laid from the parts that are passed (`Kept`); what is left of the text gets shorter.
+use borrow.Author.Needs.{needs}
+use mathlib.Core.Path.{sym}
+use Prim.Native.Nat.{_+_}
+use lib.ListN.{length}
+use lib.Seq.{length-take-le}
+use Rattle.lexis.proofs.Lists.{rest}
+use Rattle.lexis.proofs.Splitting as S
+use Rattle.meaning.specs.Tile.{dimension}
+use Rattle.lists.specs.Laid.{list64}
+use Rattle.lists.proofs.Laying as L
+use Rattle.lists.proofs.list.parse_dims.Statement.{statement}
+use Rattle.lists.proofs.list.parse_dims.Tie as tie
+
+abbrev Inv : tie.InvT-loop
+Inv s x t₀ l₀ t l = L.Kept 8 x dimension s t (list64 l)
+
+abbrev μ : tie.MeasureT-loop
+μ s x t₀ l₀ t l = length t
+
+pub parse-dims-spec : {M : Type 1} → statement M
+parse-dims-spec =
+    tie.close
+    (tie.spec Inv μ
+    (λ c κs. search needs)
+    (λ c. L.begun 8 _ _ (c .none64 .ensures))
+    (λ c κs. search needs)
+    (λ c. sym (length-take-le _ _ (S.short _ (c .before .before .loop .t .now) _ (c .before .until .ensures))))
+    (λ c κs. search needs)
+    (λ c κs. search needs)
+    (λ c. let u = c .before .before .before .before in let a = c .before .before .before .before .before .before .before .before .args in
+    L.end 8 (a .x) dimension (u .before .loop .inv) (u .until .ensures) (c .before .before .parse-dim .ensures) (c .before .push64 .ensures) (search needs))
+    (λ c. search needs)
+    (λ c. search needs)
+    (λ c. search needs)
+    (λ c. search needs)
+    (λ c. let u = c .before .before .before .before .before in let a = c .before .before .before .before .before .before .before .before .before .args in
+    S.less (a .x) (u .before .loop .t .now) (u .until .result) (search needs))
+    (λ c. let u = c .before .before .before .before .before in let a = c .before .before .before .before .before .before .before .before .before .args in
+    L.step 8 (a .x) dimension (u .before .loop .inv) (u .until .ensures) (c .before .before .before .parse-dim .ensures) (c .before .before .push64 .ensures)
+    (rest (u .before .loop .t .now) (u .until .result + 1)) (search needs)))

@@ -1,0 +1,41 @@
+-- The list is laid from the parts before the place (`Kept`), with the rest of the text from there on.
+use borrow.Author.Needs.{needs}
+use Prim.Native.Nat.{_-_, _≤_}
+use lib.ListN.{length, drop}
+use Rattle.meaning.specs.Tile.{dimension}
+use Rattle.lists.specs.Laid.{list64}
+use Rattle.lists.proofs.Laying as L
+use Rattle.lists.proofs.list.parse_front.Statement.{statement}
+use Rattle.lists.proofs.list.parse_front.Tie as tie
+
+abbrev Inv : tie.InvT-loop
+Inv s at₀ l₀ at l = (at ≤ length s) × L.Kept 8 120 dimension s (drop at s) (list64 l)
+
+abbrev μ : tie.MeasureT-loop
+μ s at₀ l₀ at l = length s - at
+
+pub parse-front-spec : {M : Type 1} → statement M
+parse-front-spec =
+    tie.close
+    (tie.spec Inv μ
+    (λ c κs. search needs)
+    (λ c. (search needs, L.begun 8 120 dimension (c .none64 .ensures)))
+    (λ c. search needs)
+    (λ c. search needs)
+    (λ c. search needs)
+    (λ c κs. search needs)
+    (λ c. search needs)
+    (λ c. let l = c .before .before .before .loop in let s = c .before .before .before .before .before .before .args .s .now in
+    let h = L.last-at 8 120 dimension s (l .at) (l .inv .1) (c .before .until .ensures) (search needs) in
+    record { dims = L.dims-front 8 120 dimension (l .inv .1) h; part = L.part-last 8 120 dimension (l .inv .1) h; inside = l .inv .0 })
+    (λ c. search needs)
+    (λ c. search needs)
+    (λ c. search needs)
+    (λ c. search needs)
+    (λ c κs. search needs)
+    (λ c κs. search needs)
+    (λ c. search needs)
+    (λ c. search needs)
+    (λ c. search needs)
+    (λ c. let l = c .before .before .before .before .before .before .loop in let s = c .before .before .before .before .before .before .before .before .before .args .s .now in
+    (search needs, L.step-at 8 120 dimension s (l .at) (l .inv .1) (c .before .before .before .before .until .ensures) (c .before .parse-dim .ensures) (c .push64 .ensures) (search needs))))

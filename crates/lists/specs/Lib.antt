@@ -1,0 +1,3 @@
+-- What the list readers' contracts say.
+pub mod Laid
+pub mod Push
