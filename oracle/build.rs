@@ -1,4 +1,4 @@
-//! Finds the original `types.rs` and names it to the compiler by an absolute path, unchanged.
+//! Finds the original `types.rs` and names it to the compiler by an absolute path, unchanged; links our library.
 
 use std::path::{Path, PathBuf};
 use std::{env, fs};
@@ -19,13 +19,34 @@ fn main() {
         // The allow stands outside the original, which has parts nobody here calls.
         text = format!("#[allow(dead_code)]\n#[path = {found:?}]\npub mod types;\n");
     }
+    link_library();
     let out = PathBuf::from(env::var_os("OUT_DIR").expect("cargo sets OUT_DIR"));
     fs::write(out.join("original_types.rs"), text).expect("OUT_DIR can be written");
 }
 
-fn types_path() -> PathBuf {
+/// Links our own reader where `TYPETEXT_LIB` names the folder that holds `libcapi.a`.
+fn link_library() {
+    println!("cargo::rustc-check-cfg=cfg(has_library)");
+    println!("cargo::rerun-if-env-changed=TYPETEXT_LIB");
+    let Some(folder) = env::var_os("TYPETEXT_LIB") else {
+        return;
+    };
+    let archive = root().join(folder).join("libcapi.a");
+    println!("cargo::rerun-if-changed={}", archive.display());
+    if let Ok(found) = fs::canonicalize(&archive) {
+        let folder = found.parent().expect("a file lies in a folder");
+        println!("cargo::rustc-cfg=has_library");
+        println!("cargo::rustc-link-search=native={}", folder.display());
+        println!("cargo::rustc-link-lib=static=capi");
+    }
+}
+
+fn root() -> PathBuf {
     let package = PathBuf::from(env::var_os("CARGO_MANIFEST_DIR").expect("cargo sets it"));
-    let root = package.parent().unwrap_or(Path::new("..")).to_path_buf();
+    package.parent().unwrap_or(Path::new("..")).to_path_buf()
+}
+
+fn types_path() -> PathBuf {
     let source = env::var_os("CUTILE_IR_SRC").unwrap_or_else(|| DEFAULT_SOURCE.into());
-    root.join(source).join("src/ir/types.rs")
+    root().join(source).join("src/ir/types.rs")
 }

@@ -3,7 +3,7 @@
 use crate::answer::Answer;
 use crate::escape::escape;
 use crate::pieces::NAMES;
-use crate::{original, plain};
+use crate::{original, ours, plain};
 
 /// The plain answer with its counts, once the original (where present) has agreed.
 pub fn settled(text: &[u8]) -> Result<Answer, String> {
@@ -12,6 +12,34 @@ pub fn settled(text: &[u8]) -> Result<Answer, String> {
         Some(original) if !original.agrees(&plain) => Err(told(&shrunk(text, differs))),
         _ => Ok(plain),
     }
+}
+
+/// The same, once our own reader has agreed too, counts and all.
+pub fn settled_by_ours(text: &[u8]) -> Result<Answer, String> {
+    let plain = settled(text)?;
+    match ours::read(text) {
+        Some(Ok(ours)) if ours == plain => Ok(plain),
+        Some(_) => Err(ours_told(&shrunk(text, ours_differs))),
+        None => Ok(plain),
+    }
+}
+
+fn ours_differs(text: &[u8]) -> bool {
+    ours::read(text).is_some_and(|ours| ours != Ok(plain::read(text)))
+}
+
+fn ours_told(text: &[u8]) -> String {
+    let ours = match ours::read(text) {
+        Some(Ok(answer)) => answer.to_string(),
+        Some(Err(why)) => why,
+        None => String::new(),
+    };
+    format!(
+        "our reader differs on this text of {} bytes:\n  text     {}\n  ours     {ours}\n  plain    {}",
+        text.len(),
+        escape(text),
+        plain::read(text)
+    )
 }
 
 fn differs(text: &[u8]) -> bool {

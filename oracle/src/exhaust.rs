@@ -26,6 +26,22 @@ pub const FRAMES: [(&str, &str); 14] = [
     ("strided_view<tile", "2), tensor_view<f32>, dim_map=[0]>"),
 ];
 
+/// Each of the twelve forms, opened and closed.
+pub const FORMS: [(&str, &str); 12] = [
+    ("!cuda_tile.tile<", ">"),
+    ("!cuda_tile.tensor_view<", ">"),
+    ("!cuda_tile.partition_view<", ">"),
+    ("!cuda_tile.gather_scatter_view<", ">"),
+    ("!cuda_tile.strided_view<", ">"),
+    ("!cuda_tile.ptr<", ">"),
+    ("tile<", ">"),
+    ("tensor_view<", ">"),
+    ("partition_view<", ">"),
+    ("gather_scatter_view<", ">"),
+    ("strided_view<", ">"),
+    ("ptr<", ">"),
+];
+
 /// Counts through all texts of up to `longest` bytes in one frame, shortest first.
 pub struct Exhaust {
     frame: (&'static str, &'static str),

@@ -95,6 +95,22 @@ pub fn written() -> Result<(String, usize), String> {
     Ok((file, count))
 }
 
+/// A part fits into the buffer of the program that replays the list.
+const LONGEST_PART: usize = 65_000;
+
+/// The file's lines in parts, in order.
+pub fn parts(file: &str) -> Vec<String> {
+    let mut parts = vec![String::new()];
+    for line in file.split_inclusive('\n') {
+        if parts[parts.len() - 1].len() + line.len() > LONGEST_PART {
+            parts.push(String::new());
+        }
+        let last = parts.len() - 1;
+        parts[last].push_str(line);
+    }
+    parts
+}
+
 /// Every row against the plain reading and, where present, the original; then the file as a whole.
 pub fn check(file: &str) -> Result<usize, String> {
     let mut count = 0;

@@ -18,6 +18,7 @@ mod list;
 #[rustfmt::skip]
 mod nasty;
 mod original;
+mod ours;
 #[rustfmt::skip]
 mod pieces;
 mod plain;
@@ -28,6 +29,7 @@ mod rows;
 mod scalar;
 mod shown;
 mod table;
+mod time;
 
 use std::env;
 use std::fs;
@@ -42,15 +44,19 @@ oracle: the original Type::parse, run beside a plain second reading of the same 
                                        (escapes \\\\ and \\xHH); by default both are read, and a
                                        difference is noted
   oracle agree COUNT [SEED]            both readings on COUNT generated texts and all short ones
-  oracle list [FILE]                   writes the fixed list anew
-  oracle check-list [FILE]             checks every row of the list, and that it would be written so
+  oracle compare COUNT [SEED|--quick]  our reader beside both, counts included, on COUNT generated
+                                       texts, all short ones and all short contents of each form
+  oracle time                          our reader's time beside Type::parse's, as a ratio
+  oracle list [DIR]                    writes the fixed list anew: DIR/list1.txt, DIR/list2.txt, ...
+  oracle check-list [DIR]              checks every row of the list, and that it would be written so
   oracle table DIR                     writes DIR/Part1.antt, DIR/Part2.antt, ...
   oracle check-table DIR               checks that the parts in DIR are what `table` writes
   oracle scalars                       widths, kinds and bits of the 16 scalars
 
-FILE is list.txt beside this crate's Cargo.toml unless named. `--original`, `agree` and `list` need
+The list's DIR is crates/replay/data unless named. `--original`, `agree`, `list` and `time` need
 the original source, found at build time: CUTILE_IR_SRC names the folder that holds
 src/ir/types.rs. The other commands also hold it beside the plain reading where it is there.
+`compare` and `time` need our library: TYPETEXT_LIB names the folder that holds libcapi.a.
 Exit: 0 all is well, 1 something differs or can't be done, 2 the command isn't understood.
 ";
 
@@ -101,10 +107,14 @@ fn run(words: &[&str], out: &mut dyn Write) -> Result<(), Failure> {
         ["answer", "--original"] => shown::answers(out, shown::Which::Original)?,
         ["agree", count] => agree(out, count, "1")?,
         ["agree", count, seed] => agree(out, count, seed)?,
+        ["compare", count] => compare(out, count, "1", false)?,
+        ["compare", count, "--quick"] => compare(out, count, "1", true)?,
+        ["compare", count, seed] => compare(out, count, seed, false)?,
+        ["time"] => time(out)?,
         ["list"] => list(out, &list_path())?,
-        ["list", file] => list(out, Path::new(file))?,
+        ["list", folder] => list(out, Path::new(folder))?,
         ["check-list"] => check_list(out, &list_path())?,
-        ["check-list", file] => check_list(out, Path::new(file))?,
+        ["check-list", folder] => check_list(out, Path::new(folder))?,
         ["table", folder] => table(out, Path::new(folder), false)?,
         ["check-table", folder] => table(out, Path::new(folder), true)?,
         ["scalars"] => shown::scalars(out)?,
@@ -120,7 +130,7 @@ fn run(words: &[&str], out: &mut dyn Write) -> Result<(), Failure> {
 }
 
 fn list_path() -> PathBuf {
-    Path::new(env!("CARGO_MANIFEST_DIR")).join("list.txt")
+    Path::new(env!("CARGO_MANIFEST_DIR")).join("../crates/replay/data")
 }
 
 fn number(word: &str) -> Result<u64, Failure> {
@@ -134,11 +144,36 @@ fn agree(out: &mut dyn Write, count: &str, seed: &str) -> Result<(), Failure> {
     Ok(agree::agree(out, count, seed)?)
 }
 
-fn list(out: &mut dyn Write, path: &Path) -> Result<(), Failure> {
+fn compare(out: &mut dyn Write, count: &str, seed: &str, quick: bool) -> Result<(), Failure> {
+    let (count, seed) = (number(count)?, number(seed)?);
+    ours::needed()?;
+    Ok(agree::compare(out, count, seed, quick)?)
+}
+
+fn time(out: &mut dyn Write) -> Result<(), Failure> {
+    ours::needed()?;
+    original::needed()?;
+    Ok(time::time(out)?)
+}
+
+/// The n-th part of the list, from 1.
+fn part_path(folder: &Path, n: usize) -> PathBuf {
+    folder.join(format!("list{n}.txt"))
+}
+
+fn list(out: &mut dyn Write, folder: &Path) -> Result<(), Failure> {
     original::needed()?;
     let (file, rows) = list::written()?;
-    fs::write(path, file).map_err(|why| format!("{}: {why}", path.display()))?;
-    Ok(writeln!(out, "{rows} rows written")?)
+    let parts = list::parts(&file);
+    for (place, part) in parts.iter().enumerate() {
+        let path = part_path(folder, place + 1);
+        fs::write(&path, part).map_err(|why| format!("{}: {why}", path.display()))?;
+    }
+    Ok(writeln!(
+        out,
+        "{rows} rows written in {} parts",
+        parts.len()
+    )?)
 }
 
 /// Which readings a check has held its rows against.
@@ -149,8 +184,15 @@ fn against() -> &'static str {
     }
 }
 
-fn check_list(out: &mut dyn Write, path: &Path) -> Result<(), Failure> {
-    let file = fs::read_to_string(path).map_err(|why| format!("{}: {why}", path.display()))?;
+fn check_list(out: &mut dyn Write, folder: &Path) -> Result<(), Failure> {
+    let mut file = String::new();
+    for n in 1.. {
+        match fs::read_to_string(part_path(folder, n)) {
+            Ok(part) => file.push_str(&part),
+            Err(_) if n > 1 => break,
+            Err(why) => return Err(format!("{}: {why}", part_path(folder, n).display()).into()),
+        }
+    }
     let rows = list::check(&file)?;
     Ok(writeln!(out, "{rows} rows checked {}", against())?)
 }

@@ -1,0 +1,63 @@
+// Removing the pointer mark (01, module 7).
+use lexis::Found;
+ghost use Prim.Native.Nat.{_+_, _≤_};
+ghost use mathlib.Core.Path.{_≡_};
+ghost use mathlib.Core.List.{_++_};
+ghost use lib.ListN.{length, take};
+ghost use Rattle.lexis.specs.Text.{if_then_else_, occurs};
+ghost use Rattle.meaning.specs.Parts.{remove};
+ghost use Rattle.meaning.specs.Ordinary.{mark};
+
+// Whether the mark occurs in `text`.
+pub(crate) fn has_mark(text: &[u8]) -> bool
+    ensures { λ r. ⌜ r ≡ occurs mark (now (text .entry)) ⌝ }
+{
+    lexis::contains(text, b", #cuda_tile.ptr_attr<none>")
+}
+
+// Copies `s` into `room` from `at` on, and returns the place after it.
+pub(crate) fn copy(s: &[u8], room: &mut [u8], at: usize) -> usize
+    requires { ⌜ at + length (now s) ≤ length (now room) ⌝ }
+    ensures { λ r. ⌜ (r ≡ at + length (now (s .entry))) × (take r (now (room .exit)) ≡ take at (now (room .entry)) ++ now (s .entry)) ⌝ }
+{
+    let mut i = 0;
+    while i < s.len() {
+        room[at + i] = s[i];
+        i += 1;
+    }
+    at + i
+}
+
+// Copies `text` without its marks to the front of `room`, and returns how many bytes that is.
+pub(crate) fn remove(text: &[u8], room: &mut [u8]) -> usize
+    requires { ⌜ length (now text) ≤ length (now room) ⌝ }
+    ensures { λ r. ⌜ (r ≤ length (now (room .exit))) × (take r (now (room .exit)) ≡ remove mark (now (text .entry))) ⌝ }
+{
+    let mut n = 0;
+    let mut t = text;
+    loop {
+        match lexis::find(t, b", #cuda_tile.ptr_attr<none>") {
+            Found::At(i) => {
+                n = copy(&t[..i], &mut *room, n);
+                t = &t[i + 27..];
+            }
+            Found::Nowhere => {
+                return copy(t, &mut *room, n);
+            }
+        }
+    }
+}
+
+// What is read on: `text` itself if it has no mark, else a part of `room`.
+pub(crate) fn to_read<'a>(text: &'a [u8], room: &'a mut [u8]) -> &'a [u8]
+    requires { ⌜ length (now text) ≤ length (now room) ⌝ }
+    ensures { λ r. ⌜ now r ≡ (if occurs mark (now (text .entry)) then remove mark (now (text .entry)) else now (text .entry)) ⌝ }
+{
+    if has_mark(text) {
+        let n = remove(text, &mut *room);
+        let t = &room[..];
+        &t[..n]
+    } else {
+        text
+    }
+}

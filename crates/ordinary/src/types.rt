@@ -1,0 +1,267 @@
+// `Type::parse` (01, module 7), and the ordinary reader's answer.
+use super::brackets::applies;
+use super::brackets::strip_prefix_suffix;
+use super::made::Parsed;
+use super::made::nothing;
+use super::made::simple;
+use super::marks::has_mark;
+use super::marks::to_read;
+use super::tensor_view::parse_tensor_view;
+use super::tile::parse_tile;
+use super::views::parse_gather_scatter_view;
+use super::views::parse_partition_view;
+use super::views::parse_strided_view;
+use lexis::Found;
+use lexis::Named;
+use lexis::Scalar;
+use meaning::CAP;
+use meaning::Kind;
+use meaning::Note;
+use meaning::Reading;
+use meaning::Record;
+use meaning::Refusal;
+ghost use Prim.Native.Nat.{suc, _≤_};
+ghost use mathlib.Core.Path.{_≡_};
+ghost use mathlib.Core.Option.{Option, some};
+ghost use lib.ListN.{length};
+ghost use Rattle.lexis.specs.Text.{spot};
+ghost use Rattle.lexis.specs.Names.{scalar-name};
+ghost use Rattle.meaning.specs.Found.{plain};
+ghost use Rattle.meaning.specs.Parts.{each};
+ghost use Rattle.meaning.specs.Ordinary.{pointer, forms, by-forms, unmarked, passes, high-from, refused, ordinary};
+ghost use Rattle.meaning.specs.declared.Kind.the-variants as K;
+ghost use Rattle.ordinary.specs.Shown.{said, shown, Told, attributed, lengths-within, judged};
+ghost use Rattle.ordinary.specs.Forms.{shorthand};
+
+// A type without lists.
+fn plain(kind: Kind, element: Scalar) -> Parsed
+    ensures { λ r. ⌜ said r ≡ some (shown 8 (plain kind element)) ⌝ }
+{
+    let l = lists::none64();
+    simple(kind, element, false, l, l)
+}
+
+fn parse_ptr(inner: &[u8]) -> Parsed
+    ensures { λ r. ⌜ said r ≡ each (shown 8) (pointer (now (inner .entry))) ⌝ }
+{
+    match lexis::parse_scalar(inner) {
+        Named::Is(e) => plain(Kind::Pointer, e),
+        Named::Unknown => nothing(),
+    }
+}
+
+// Bare scalar name.
+fn parse_bare(s: &[u8]) -> Parsed
+    ensures { λ r. ⌜ said r ≡ each (shown 8) (each (plain K.Scalar) (scalar-name (now (s .entry)))) ⌝ }
+{
+    match lexis::parse_scalar(s) {
+        Named::Is(e) => plain(Kind::Scalar, e),
+        Named::Unknown => nothing(),
+    }
+}
+
+// Whether a form applies, and how long its content is then.
+struct Applied {
+    applies: bool,
+    len: usize,
+}
+
+fn try_form(s: &[u8], prefix: &[u8]) -> Applied
+    ensures { λ r. ⌜ Told (now (prefix .entry)) (now (s .entry)) r ⌝ }
+{
+    match applies(s, prefix) {
+        Found::At(n) => Applied {
+            applies: true,
+            len: n,
+        },
+        Found::Nowhere => Applied {
+            applies: false,
+            len: 0,
+        },
+    }
+}
+
+// Prefixed forms.
+fn parse_prefixed(s: &[u8]) -> Parsed
+    requires { ⌜ length (now s) ≤ 1024 ⌝ }
+    ensures { λ r. ⌜ said r ≡ each (shown 8) (by-forms forms (now (s .entry))) ⌝ }
+{
+    let t = try_form(s, b"!cuda_tile.tile<");
+    if t.applies {
+        return parse_tile(strip_prefix_suffix(s, b"!cuda_tile.tile<", t.len));
+    }
+    let v = try_form(s, b"!cuda_tile.tensor_view<");
+    if v.applies {
+        return parse_tensor_view(strip_prefix_suffix(s, b"!cuda_tile.tensor_view<", v.len));
+    }
+    let p = try_form(s, b"!cuda_tile.partition_view<");
+    if p.applies {
+        return parse_partition_view(strip_prefix_suffix(s, b"!cuda_tile.partition_view<", p.len));
+    }
+    let g = try_form(s, b"!cuda_tile.gather_scatter_view<");
+    if g.applies {
+        return parse_gather_scatter_view(strip_prefix_suffix(
+            s,
+            b"!cuda_tile.gather_scatter_view<",
+            g.len,
+        ));
+    }
+    let d = try_form(s, b"!cuda_tile.strided_view<");
+    if d.applies {
+        return parse_strided_view(strip_prefix_suffix(s, b"!cuda_tile.strided_view<", d.len));
+    }
+    let q = try_form(s, b"!cuda_tile.ptr<");
+    if q.applies {
+        return parse_ptr(strip_prefix_suffix(s, b"!cuda_tile.ptr<", q.len));
+    }
+    parse_shorthand(s)
+}
+
+// Shorthand forms (no `!cuda_tile.` prefix), and at last a bare scalar.
+fn parse_shorthand(s: &[u8]) -> Parsed
+    requires { ⌜ length (now s) ≤ 1024 ⌝ }
+    ensures { λ r. ⌜ said r ≡ each (shown 8) (by-forms shorthand (now (s .entry))) ⌝ }
+{
+    let t = try_form(s, b"tile<");
+    if t.applies {
+        return parse_tile(strip_prefix_suffix(s, b"tile<", t.len));
+    }
+    let v = try_form(s, b"tensor_view<");
+    if v.applies {
+        return parse_tensor_view(strip_prefix_suffix(s, b"tensor_view<", v.len));
+    }
+    let p = try_form(s, b"partition_view<");
+    if p.applies {
+        return parse_partition_view(strip_prefix_suffix(s, b"partition_view<", p.len));
+    }
+    let g = try_form(s, b"gather_scatter_view<");
+    if g.applies {
+        return parse_gather_scatter_view(strip_prefix_suffix(s, b"gather_scatter_view<", g.len));
+    }
+    let d = try_form(s, b"strided_view<");
+    if d.applies {
+        return parse_strided_view(strip_prefix_suffix(s, b"strided_view<", d.len));
+    }
+    let q = try_form(s, b"ptr<");
+    if q.applies {
+        return parse_ptr(strip_prefix_suffix(s, b"ptr<", q.len));
+    }
+    parse_bare(s)
+}
+
+// A trimmed text without marks. Both `!cuda_tile.token` and shorthand `token` are accepted.
+fn parse_unmarked(s: &[u8]) -> Parsed
+    requires { ⌜ length (now s) ≤ 1024 ⌝ }
+    ensures { λ r. ⌜ said r ≡ each (shown 8) (unmarked (now (s .entry))) ⌝ }
+{
+    if lexis::same(s, b"!cuda_tile.token") {
+        return plain(Kind::Token, Scalar::I1);
+    }
+    if lexis::same(s, b"token") {
+        return plain(Kind::Token, Scalar::I1);
+    }
+    parse_prefixed(s)
+}
+
+fn with_pointer_attribute(p: Parsed) -> Parsed
+    ensures { λ r. ⌜ said r ≡ each attributed (said p) ⌝ }
+{
+    let mut value = p.value;
+    value.attribute = true;
+    let note = p.note;
+    Parsed {
+        found: p.found,
+        value,
+        note,
+    }
+}
+
+// Trims; where the mark occurs, removes all and reads again.
+fn parse_marked(text: &[u8]) -> Parsed
+    requires { ⌜ length (now text) ≤ 1024 ⌝ }
+    ensures { λ r. ⌜ said r ≡ each (shown 8) (passes (suc (length (now (text .entry)))) (now (text .entry))) ⌝ }
+{
+    let mut room = [0u8; 1024];
+    let s = lexis::trim(text);
+    let marked = has_mark(s);
+    let rest = to_read(s, &mut room);
+    if marked {
+        with_pointer_attribute(parse_marked(rest))
+    } else {
+        parse_unmarked(rest)
+    }
+}
+
+// The place of the first byte of 128 or more.
+fn first_high(text: &[u8]) -> Found
+    ensures { λ r. ⌜ spot r ≡ high-from 0 (now (text .entry)) ⌝ }
+{
+    let mut i = 0;
+    while i < text.len() {
+        if 128 <= text[i] {
+            return Found::At(i);
+        }
+        i += 1;
+    }
+    Found::Nowhere
+}
+
+fn refuse(refusal: Refusal, place: usize) -> Reading
+    ensures { λ r. ⌜ r ≡ refused 8 refusal place ⌝ }
+{
+    let value = meaning::blank();
+    Reading {
+        refusal,
+        place,
+        value,
+        note: Note {
+            a: 0,
+            b: 0,
+            c: 0,
+            d: 0,
+        },
+    }
+}
+
+// No list has over eight entries.
+fn within(r: Record) -> bool
+    ensures { λ e. ⌜ e ≡ lengths-within 8 r ⌝ }
+{
+    (r.shape_len <= CAP)
+        & (r.strides_len <= CAP)
+        & (r.tile_len <= CAP)
+        & (r.map_len <= CAP)
+        & (r.traversal_len <= CAP)
+}
+
+fn judge(p: Parsed) -> Reading
+    ensures { λ r. ⌜ r ≡ judged (said p) ⌝ }
+{
+    if !p.found {
+        return refuse(Refusal::NoType, 0);
+    }
+    let value = p.value;
+    if !within(value) {
+        return refuse(Refusal::TooMany, 0);
+    }
+    let note = p.note;
+    Reading {
+        refusal: Refusal::Accepted,
+        place: 0,
+        value,
+        note,
+    }
+}
+
+// What `Type::parse` returns, with the default counts; or the refusal 1, 2, 3 or 4, the first that applies.
+pub fn parse(text: &[u8]) -> Reading
+    ensures { λ r. ⌜ r ≡ ordinary 8 1024 (now (text .entry)) ⌝ }
+{
+    if 1024 < text.len() {
+        return refuse(Refusal::TooLong, 0);
+    }
+    match first_high(text) {
+        Found::At(place) => refuse(Refusal::HighByte, place),
+        Found::Nowhere => judge(parse_marked(text)),
+    }
+}
