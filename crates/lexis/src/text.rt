@@ -47,19 +47,22 @@ pub fn same(a: &[u8], b: &[u8]) -> bool
     stands(b, a, 0)
 }
 
-// The first place of `what` in `text`; of nothing, the place 0.
+// The first place of `what` in `text`; of nothing, the place 0. The first byte is looked for before the rest is compared.
 pub fn find(text: &[u8], what: &[u8]) -> Found
     ensures { λ r. ⌜ spot r ≡ place (cut (now (what .entry)) (now (text .entry))) ⌝ }
 {
+    if what.len() == 0 {
+        return Found::At(0);
+    }
+    let b = what[0];
     let mut i = 0;
     while i < text.len() {
-        if stands(text, what, i) {
-            return Found::At(i);
+        if text[i] == b {
+            if stands(text, what, i) {
+                return Found::At(i);
+            }
         }
         i += 1;
-    }
-    if stands(text, what, i) {
-        return Found::At(i);
     }
     Found::Nowhere
 }

@@ -48,12 +48,12 @@ pub(crate) fn remove(text: &[u8], room: &mut [u8]) -> usize
     }
 }
 
-// What is read on: `text` itself if it has no mark, else a part of `room`.
-pub(crate) fn to_read<'a>(text: &'a [u8], room: &'a mut [u8]) -> &'a [u8]
-    requires { ⌜ length (now text) ≤ length (now room) ⌝ }
+// What is read on: `text` itself if it has no mark, else a part of `room`. The caller has asked `has_mark`.
+pub(crate) fn to_read<'a>(text: &'a [u8], room: &'a mut [u8], marked: bool) -> &'a [u8]
+    requires { ⌜ (length (now text) ≤ length (now room)) × (marked ≡ occurs mark (now text)) ⌝ }
     ensures { λ r. ⌜ now r ≡ (if occurs mark (now (text .entry)) then remove mark (now (text .entry)) else now (text .entry)) ⌝ }
 {
-    if has_mark(text) {
+    if marked {
         let n = remove(text, &mut *room);
         let t = &room[..];
         &t[..n]

@@ -184,7 +184,7 @@ fn parse_marked(text: &[u8]) -> Parsed
     let mut room = [0u8; 1024];
     let s = lexis::trim(text);
     let marked = has_mark(s);
-    let rest = to_read(s, &mut room);
+    let rest = to_read(s, &mut room, marked);
     if marked {
         with_pointer_attribute(parse_marked(rest))
     } else {

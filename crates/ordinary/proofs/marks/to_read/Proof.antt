@@ -10,8 +10,7 @@ to-read-spec =
     tie.close
     (tie.spec
     (λ c κs. search needs)
-    (λ c κs. search needs)
     (λ c. sym (length-take-le _ _ (c .before .before .before .before .remove .ensures .0)))
     (λ c. let p = c .before .before .before .before in
-    rw (sym (p .before .before .before .has-mark .ensures) ∙ p .before .before .if1 .taken) (p .remove .ensures .1))
-    (λ c. rw (sym (c .before .has-mark .ensures) ∙ c .if1 .left)))
+    rw (sym (p .before .before .before .before .before .pre .1) ∙ p .before .before .if1 .taken) (p .remove .ensures .1))
+    (λ c. rw (sym (c .before .before .before .pre .1) ∙ c .if1 .left)))

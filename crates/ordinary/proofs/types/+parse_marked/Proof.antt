@@ -58,7 +58,7 @@ pub +parse-marked-spec : {M : Type 1} → statement M
     (λ c κs. search needs)
     (λ c. search needs)
     (λ c κs. let p = c .before .before in let q = p .before .before in
-    omega (arith, ap length (p .trim .ensures), trim-within (q .args .text .now), q .pre .1))
+    (omega (arith, ap length (p .trim .ensures), trim-within (q .args .text .now), q .pre .1), c .before .has-mark .ensures))
     (λ c κs. let r = c .before in let p = r .before .before .before in let q = p .before .before in
     let k = L.shorter (q .args .text .now) _ _ (p .trim .ensures) (r .to-read .ensures) (sym (r .before .before .has-mark .ensures) ∙ c .if1 .taken) in
     (omega (arith, k, q .pre .0), omega (arith, k, q .pre .1)))
