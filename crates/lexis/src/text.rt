@@ -54,10 +54,10 @@ pub fn find(text: &[u8], what: &[u8]) -> Found
     if what.len() == 0 {
         return Found::At(0);
     }
-    let b = what[0];
+    let first = what[0];
     let mut i = 0;
     while i < text.len() {
-        if text[i] == b {
+        if text[i] == first {
             if stands(text, what, i) {
                 return Found::At(i);
             }

@@ -60,7 +60,7 @@ pub fn made(
     let f = sparse.values;
     let z = f[0];
     let value = Record {
-        kind,
+        kind, // that of the form
         element,
         pointer,
         attribute: false,

@@ -11,10 +11,10 @@ use Rattle.lexis.proofs.text.find.Statement.{statement}
 use Rattle.lexis.proofs.text.find.Tie as tie
 
 abbrev Inv : tie.InvT-loop
-Inv text what b i₀ i = (i ≤ length text) × (place (cut what text) ≡ L.shifted i (place (cut what (drop i text))))
+Inv text what first i₀ i = (i ≤ length text) × (place (cut what text) ≡ L.shifted i (place (cut what (drop i text))))
 
 abbrev μ : tie.MeasureT-loop
-μ text what b i₀ i = length text - i
+μ text what first i₀ i = length text - i
 
 pub find-spec : {M : Type 1} → statement M
 find-spec =
