@@ -171,3 +171,26 @@ mod with_source {
         }
     }
 }
+
+#[cfg(all(test, has_source))]
+mod tests {
+    use super::*;
+    use crate::ir::types::Type;
+
+    /// docs/DIFFERENCES.md: what the original returns where document 01 refuses with 1, 2 or 4.
+    #[test]
+    fn refusals_that_the_original_does_not_have() {
+        let long = format!("token{}", " ".repeat(1020));
+        for (text, number) in [
+            (long.as_str(), 1),
+            ("token\u{a0}", 2),
+            ("tile<1x1x1x1x1x1x1x1x1xf32>", 4),
+        ] {
+            assert!(Type::parse(text).is_some(), "{text}");
+            assert_eq!(
+                read(text.as_bytes()).map(|answer| answer.number()),
+                Some(number)
+            );
+        }
+    }
+}
