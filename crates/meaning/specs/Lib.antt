@@ -6,3 +6,7 @@ pub mod Found
 pub mod Tile
 pub mod Views
 pub mod Ordinary
+pub mod Decimal
+pub mod Strict
+pub mod Meant
+pub mod Written

@@ -99,3 +99,9 @@ pub struct Reading {
     pub value: Record,
     pub note: Note,
 }
+
+// What the writer answers.
+pub struct Written {
+    pub refusal: Refusal,
+    pub len: usize,
+}

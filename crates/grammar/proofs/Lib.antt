@@ -1,0 +1,4 @@
+-- What the strict reader's laws give: one meaning, one answer; and examples.
+pub mod Unique
+pub mod Answer
+mod Examples

@@ -1,0 +1,29 @@
+-- Computed tests: both, each of a list, true and false.
+use mathlib.Core.Bool.{Bool, true, false, _&&_, not}
+use mathlib.Core.List.{List, [], _∷_}
+use mathlib.Core.Path.{_≡_, refl}
+use lib.Dec.{T}
+
+abbrev pub every {ℓ} : {A : Type ℓ} → (A → Bool) → List A → Bool
+every f [] = true
+every f (x ∷ xs) = f x && every f xs
+
+pub and-left : (a b : Bool) → T (a && b) → T a
+and-left true b t = tt
+and-left false b t = t
+
+pub and-right : (a b : Bool) → T (a && b) → T b
+and-right true b t = t
+and-right false b t = absurd t
+
+pub and-in : (a b : Bool) → T a → T b → T (a && b)
+and-in true b h k = k
+and-in false b h k = absurd h
+
+pub is-true : (k : Bool) → T k → k ≡ true
+is-true true h = refl
+is-true false h = absurd h
+
+pub T-not-eq : (k : Bool) → T (not k) → k ≡ false
+T-not-eq true h = absurd h
+T-not-eq false h = refl

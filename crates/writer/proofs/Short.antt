@@ -1,0 +1,172 @@
+-- How long the parts of a written text are at most, and the whole: 149 bytes and 78 for each entry of the capacity.
+use Prim.Native.Nat.{ℕ, zero, suc, _+_, _*_, _^_, _≤_, _<_, zero-le}
+use native.Mathlib.Nat.{mul-suc, mul-le-mul-left}
+use native.Mathlib.Omega.{arith}
+use mathlib.Core.Bool.{Bool, true, false}
+use mathlib.Core.List.{List, [], _∷_}
+use lib.Dec.{lit≤}
+use lib.ListN.{length, length-append, take, getD}
+use lib.IntN.{ℤ, pos, negsuc}
+use lib.Signed.{mag}
+use Rattle.lexis.specs.Text.{Text, if_then_else_}
+use Rattle.lexis.specs.declared.scalar.Scalar.{Scalar}
+use Rattle.lexis.specs.declared.scalar.Scalar.the-variants.{I1, I4, I8, I16, I32, I64, F16, BF16, F32, TF32, F64, F8E4M3FN, F8E5M2, F8E8M0FNU, F4E2M1FN, F8E5M3FNU}
+use Rattle.meaning.specs.declared.Record.{Record}
+use Rattle.meaning.specs.declared.Padding.{Padding}
+use Rattle.meaning.specs.declared.Kind.{Kind}
+use Rattle.meaning.specs.declared.Kind.the-variants as K
+use Rattle.meaning.specs.declared.Padding.the-variants.{Absent, Zero, NegZero, Nan, PosInf, NegInf}
+use Rattle.meaning.specs.Decimal.{decimal, dim, dynamic, known}
+use Rattle.meaning.specs.Strict.{mark}
+use Rattle.meaning.specs.Written.{unknown, tile-in, map-in, traversal-in}
+use Rattle.writer.specs.Flat.{word-of, pad-text, entry, behind, parted, shaped, strides-text, body-in, inner-in, lead-text, travel-text, map-text}
+use Rattle.writer.specs.Flat.{sparse-text, pointer-text, element-text, text, text-as, Small}
+use Rattle.writer.proofs.Digits.{short}
+
+pub word-short : (e : Scalar) → length (word-of e) ≤ 9
+word-short I1 = lit≤ tt
+word-short I4 = lit≤ tt
+word-short I8 = lit≤ tt
+word-short I16 = lit≤ tt
+word-short I32 = lit≤ tt
+word-short I64 = lit≤ tt
+word-short F16 = lit≤ tt
+word-short BF16 = lit≤ tt
+word-short F32 = lit≤ tt
+word-short TF32 = lit≤ tt
+word-short F64 = lit≤ tt
+word-short F8E4M3FN = lit≤ tt
+word-short F8E5M2 = lit≤ tt
+word-short F8E8M0FNU = lit≤ tt
+word-short F4E2M1FN = lit≤ tt
+word-short F8E5M3FNU = lit≤ tt
+
+pub pad-short : (p : Padding) → length (pad-text p) ≤ 24
+pad-short Absent = lit≤ tt
+pad-short Zero = lit≤ tt
+pad-short NegZero = lit≤ tt
+pad-short Nan = lit≤ tt
+pad-short PosInf = lit≤ tt
+pad-short NegInf = lit≤ tt
+
+pub mark-short : (m : Bool) → length (mark m) ≤ 27
+mark-short true = lit≤ tt
+mark-short false = lit≤ tt
+
+-- ── numbers ──
+pub small-short : (z : ℤ) → mag z < 2 ^ 31 → length (decimal z) ≤ 11
+small-short (pos n) h = omega (arith, short 9 n (omega arith))
+small-short (negsuc n) h = omega (arith, short 9 (suc n) (omega arith))
+
+pub number-short : (z : ℤ) → mag z < 2 ^ 63 → length (decimal z) ≤ 20
+number-short (pos n) h = omega (arith, short 18 n (omega arith))
+number-short (negsuc n) h = omega (arith, short 18 (suc n) (omega arith))
+
+pub entry-short : (z : ℤ) → mag z < 2 ^ 63 → length (entry z) ≤ 20
+entry-short z h = go (unknown z)
+  where
+    go : (b : Bool) → length (dim (if b then dynamic else known z)) ≤ 20
+    go true = lit≤ tt
+    go false = number-short z h
+
+-- ── lists: the first n entries of an array ──
+abbrev pub Below : ℕ → List ℤ → Type 0
+Below k l = (i : ℕ) → mag (getD l i (pos 0)) < 2 ^ k
+
+module _ (f : ℤ → Text) (b k : ℕ) (s : (z : ℤ) → mag z < 2 ^ b → length (f z) ≤ k) where
+  behind-short : (v n : ℕ) (l : List ℤ) → Below b l → length (behind (v ∷ []) f (take n l)) ≤ (k + 1) * n
+  behind-short v zero l h = zero-le
+  behind-short v (suc n) [] h = zero-le
+  behind-short v (suc n) (z ∷ l) h =
+      let e = mul-suc (k + 1) n in
+      let r = behind-short v n l (λ i. h (suc i)) in
+      let a = length-append (f z) (behind (v ∷ []) f (take n l)) in
+      omega (arith, s z (h 0))
+
+  -- with no entry there is nothing, and a capacity above zero has room for it
+  parted-short : (v n cap : ℕ) (l : List ℤ) → n ≤ cap → 1 ≤ cap → Below b l → length (parted (v ∷ []) f (take n l)) + 1 ≤ (k + 1) * cap
+  parted-short v zero cap l p q h = omega (arith, mul-le-mul-left (k + 1) q)
+  parted-short v (suc n) cap [] p q h = omega (arith, mul-le-mul-left (k + 1) q)
+  parted-short v (suc n) cap (z ∷ l) p q h =
+      let e = mul-suc (k + 1) n in
+      let r = behind-short v n l (λ i. h (suc i)) in
+      let a = length-append (f z) (behind (v ∷ []) f (take n l)) in
+      omega (arith, s z (h 0), mul-le-mul-left (k + 1) p)
+
+shaped-short : (n : ℕ) (l : List ℤ) → Below 63 l → length (shaped (take n l)) ≤ 21 * n
+shaped-short zero l h = zero-le
+shaped-short (suc n) [] h = zero-le
+shaped-short (suc n) (z ∷ l) h =
+    let r = shaped-short n l (λ i. h (suc i)) in
+    let a = length-append (entry z) (120 ∷ shaped (take n l)) in
+    omega (arith, entry-short z (h 0))
+
+strides-short : (n cap : ℕ) (l : List ℤ) → n ≤ cap → 1 ≤ cap → Below 63 l → length (strides-text (take n l)) ≤ 21 * cap + 11
+strides-short zero cap l p q h = zero-le
+strides-short (suc n) cap [] p q h = zero-le
+strides-short (suc n) cap (z ∷ l) p q h =
+    let r = parted-short entry 63 20 entry-short 44 (suc n) cap (z ∷ l) p q h in
+    let a = length-append (parted (44 ∷ []) entry (take (suc n) (z ∷ l))) (93 ∷ []) in
+    omega arith
+
+-- ── the record ──
+pub record Ranged (r : Record) : Type 0 where
+  pub shape : Below 63 (r .shape)
+  pub strides : Below 63 (r .strides)
+  pub tile : Below 31 (r .tile)
+  pub map : Below 31 (r .map)
+  pub traversal : Below 31 (r .traversal)
+  pub sparse : mag (r .sparse) < 2 ^ 31
+
+module _ (cap : ℕ) (one : 1 ≤ cap) (r : Record) (s : Small cap r) (g : Ranged r) where
+  pub body-short : length (body-in r) ≤ 42 * cap + 47
+  unfolding body-in
+  body-short = simp length-append (omega (
+    arith,
+    shaped-short (r .«shape_len») (r .shape) (g .shape),
+    s .shape,
+    strides-short (r .«strides_len») cap (r .strides) (s .strides) one (g .strides),
+    word-short (r .element),
+    mark-short (r .attribute),
+  ))
+
+  inner-short : length (inner-in r) ≤ 42 * cap + 86
+  unfolding inner-in
+  inner-short = simp length-append (omega (arith, body-short, pad-short (r .padding)))
+
+  lead-short : length (lead-text (tile-in r)) ≤ 12 * cap + 8
+  unfolding lead-text
+  lead-short = simp length-append (omega (arith, parted-short decimal 31 11 small-short 120 (r .«tile_len») cap (r .tile) (s .tile) one (g .tile)))
+
+  travel-short : length (travel-text (traversal-in r)) ≤ 12 * cap + 21
+  unfolding travel-text
+  travel-short = simp length-append (omega (arith, parted-short decimal 31 11 small-short 44 (r .«traversal_len») cap (r .traversal) (s .traversal) one (g .traversal)))
+
+  map-short : length (map-text (map-in r)) ≤ 12 * cap + 10
+  unfolding map-text
+  map-short = simp length-append (omega (arith, parted-short decimal 31 11 small-short 44 (r .«map_len») cap (r .map) (s .map) one (g .map)))
+
+  sparse-short : length (sparse-text (r .sparse)) ≤ 23
+  unfolding sparse-text
+  sparse-short = simp length-append (omega (arith, small-short (r .sparse) (g .sparse)))
+
+  pointer-short : (e : Scalar) (m : Bool) → length (pointer-text e m) ≤ 52
+  pointer-short e m = simp length-append (omega (arith, word-short e, mark-short m))
+
+  element-short : (p : Bool) (e : Scalar) (m : Bool) → length (element-text p e m) ≤ 52
+  element-short true e m = pointer-short e m
+  element-short false e m = omega (arith, word-short e)
+
+  text-short-as : (k : Kind) → length (text-as k r) ≤ 78 * cap + 149
+  text-short-as K.Scalar = omega (arith, word-short (r .element))
+  text-short-as K.Pointer = omega (arith, pointer-short (r .element) (r .attribute))
+  text-short-as K.Tile = simp length-append (omega (arith, shaped-short (r .«shape_len») (r .shape) (g .shape), s .shape, element-short (r .pointer) (r .element) (r .attribute)))
+  text-short-as K.TensorView = simp length-append (omega (arith, body-short))
+  text-short-as K.Partition = simp length-append (omega (arith, lead-short, inner-short, map-short))
+  text-short-as K.GatherScatter = simp length-append (omega (arith, lead-short, inner-short, sparse-short))
+  text-short-as K.Strided = simp length-append (omega (arith, lead-short, travel-short, inner-short, map-short))
+  text-short-as K.Token = omega arith
+
+  -- at capacity 8: 773 bytes; at capacity 16: 1,397
+  pub text-short : length (text r) ≤ 78 * cap + 149
+  text-short = text-short-as (r .kind)

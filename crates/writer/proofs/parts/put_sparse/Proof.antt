@@ -1,0 +1,34 @@
+-- Part behind part: the room is enough for all, so for each, and the puts compose.
+use native.Mathlib.Omega.{arith}
+use mathlib.Core.Path.{_≡_}
+use borrow.Author.Needs.{needs}
+use lib.ListN.{length-append}
+use mir.Syntax.{w32}
+use mir.Val.{toZ, ofZ}
+use Rattle.writer.specs.Flat.{sparse-text}
+use Rattle.writer.proofs.Rooms.{_then_}
+use Rattle.writer.proofs.parts.put_sparse.Statement.{statement}
+use Rattle.writer.proofs.parts.put_sparse.Tie as tie
+
+pub put-sparse-spec : {M : Type 1} → statement M
+unfolding sparse-text
+put-sparse-spec =
+    tie.close
+    (tie.spec
+    (λ c. search needs)
+    (λ c κs. omega (arith, simp length-append at (c .before .before .before .pre)))
+    (λ c κs.
+    let c₁ = c .before .before .before .before .before .before .before in
+    let e : toZ w32 (ofZ w32 (c₁ .args .z)) ≡ c₁ .args .z = search needs in
+    rw e (omega (arith, simp length-append at (c₁ .pre))))
+    (λ c κs.
+    let c₁ = c .before .before .before .before .before .before .before .before .before .before .before in
+    let e : toZ w32 (ofZ w32 (c₁ .args .z)) ≡ c₁ .args .z = search needs in
+    omega (arith, simp length-append at (c₁ .pre), (rw e at (c .before .before .before .put-small .ensures)) .place))
+    (λ c. search needs)
+    (λ c.
+    let c₁ = c .before .before .before .before .before .before in
+    let c₂ = c₁ .before .before .before .before in
+    let c₃ = c₂ .before .before .before .before in
+    let e : toZ w32 (ofZ w32 (c₃ .args .z)) ≡ c₃ .args .z = search needs in
+    c₂ .put-bytes .ensures then (rw e at (c₁ .put-small .ensures)) then c .before .before .put-byte .ensures))
