@@ -11,6 +11,7 @@ fn strides_ok(r: Record) -> bool
     (r.strides_len != 0) | (r.shape_len == 0)
 }
 
+// An attribute on a scalar, scalar tile or token has no text, nor has an empty list that must stand.
 pub(crate) fn has_text(r: Record) -> bool
     ensures { λ e. ⌜ e ≡ shown r ⌝ }
 {

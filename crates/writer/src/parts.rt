@@ -15,6 +15,7 @@ ghost use Rattle.meaning.specs.Strict.{mark};
 ghost use Rattle.writer.specs.Room.{Put};
 ghost use Rattle.writer.specs.Flat.{Small, body-in, inner-in, pointer-text, element-text, strides-text, lead-text, travel-text, map-text, sparse-text};
 
+// The mark, or nothing.
 pub(crate) fn put_mark(out: &mut [u8], at: usize, attribute: bool) -> usize
     requires { ⌜ at + length (mark attribute) ≤ length (now out) ⌝ }
     ensures { λ r. ⌜ Put (now (out .entry)) at (mark attribute) (now (out .exit)) r ⌝ }
@@ -55,6 +56,7 @@ pub(crate) fn put_body(out: &mut [u8], at: usize, r: Record) -> usize
     put_mark(out, d, r.attribute)
 }
 
+// A pointer, with the prefix.
 pub(crate) fn put_pointer(out: &mut [u8], at: usize, e: Scalar, attribute: bool) -> usize
     requires { ⌜ at + length (pointer-text e attribute) ≤ length (now out) ⌝ }
     ensures { λ r. ⌜ Put (now (out .entry)) at (pointer-text e attribute) (now (out .exit)) r ⌝ }
@@ -65,6 +67,7 @@ pub(crate) fn put_pointer(out: &mut [u8], at: usize, e: Scalar, attribute: bool)
     put_byte(out, d, b'>')
 }
 
+// A view's tile shape, with `x` between.
 pub(crate) fn put_lead(out: &mut [u8], at: usize, l: &[i32]) -> usize
     requires { ⌜ at + length (lead-text (now l)) ≤ length (now out) ⌝ }
     ensures { λ r. ⌜ Put (now (out .entry)) at (lead-text (now (l .entry))) (now (out .exit)) r ⌝ }
@@ -74,6 +77,7 @@ pub(crate) fn put_lead(out: &mut [u8], at: usize, l: &[i32]) -> usize
     put_bytes(out, b, b"), ")
 }
 
+// A strided view's traversal strides.
 pub(crate) fn put_travel(out: &mut [u8], at: usize, l: &[i32]) -> usize
     requires { ⌜ at + length (travel-text (now l)) ≤ length (now out) ⌝ }
     ensures { λ r. ⌜ Put (now (out .entry)) at (travel-text (now (l .entry))) (now (out .exit)) r ⌝ }
@@ -83,6 +87,7 @@ pub(crate) fn put_travel(out: &mut [u8], at: usize, l: &[i32]) -> usize
     put_bytes(out, b, b"], ")
 }
 
+// A view's map, and the `>` that closes the view.
 pub(crate) fn put_map(out: &mut [u8], at: usize, l: &[i32]) -> usize
     requires { ⌜ at + length (map-text (now l)) ≤ length (now out) ⌝ }
     ensures { λ r. ⌜ Put (now (out .entry)) at (map-text (now (l .entry))) (now (out .exit)) r ⌝ }
@@ -92,6 +97,7 @@ pub(crate) fn put_map(out: &mut [u8], at: usize, l: &[i32]) -> usize
     put_bytes(out, b, b"]>")
 }
 
+// A view's sparse dimension, and the `>` that closes the view.
 pub(crate) fn put_sparse(out: &mut [u8], at: usize, z: i32) -> usize
     requires { ⌜ at + length (sparse-text z) ≤ length (now out) ⌝ }
     ensures { λ r. ⌜ Put (now (out .entry)) at (sparse-text z) (now (out .exit)) r ⌝ }
@@ -101,6 +107,7 @@ pub(crate) fn put_sparse(out: &mut [u8], at: usize, z: i32) -> usize
     put_byte(out, b, b'>')
 }
 
+// A tile's element.
 pub(crate) fn put_element(
     out: &mut [u8],
     at: usize,

@@ -88,6 +88,7 @@ fn put_strided(out: &mut [u8], at: usize, r: Record) -> usize
     put_map(out, f, &map[..m])
 }
 
+// The text of `r`, by its kind.
 pub(crate) fn put_text(out: &mut [u8], at: usize, r: Record) -> usize
     requires { ⌜ Small 8 r ⌝ }
     requires { ⌜ at + length (text r) ≤ length (now out) ⌝ }
