@@ -3,6 +3,8 @@
 use crate::answer::{Answer, Counts, Kind, Padding, Record, DYNAMIC};
 use crate::compare::settled;
 use crate::list::Texts;
+use crate::original;
+use crate::scalar::{Scalar, ALL};
 use std::fs;
 use std::path::Path;
 
@@ -26,6 +28,7 @@ impl Table {
             let number = place + 1;
             files.push((format!("Part{number}.antt"), file(number, part)?));
         }
+        files.push(("Scalars.antt".to_string(), scalars()?));
         let rows = texts.len();
         Ok(Table { files, rows })
     }
@@ -51,12 +54,58 @@ impl Table {
                 ));
             }
         }
-        let beyond = folder.join(format!("Part{}.antt", self.files.len() + 1));
+        let beyond = folder.join(format!("Part{}.antt", self.files.len()));
         match beyond.exists() {
             true => Err(format!("{} is one part too many", beyond.display())),
             false => Ok(()),
         }
     }
+}
+
+/// Widths and classes of the scalars, which the original must confirm where it is there.
+fn scalars() -> Result<String, String> {
+    for (scalar, name) in ALL {
+        let ours = (scalar.byte_width(), scalar.is_integer(), scalar.is_float());
+        if original::scalar_facts(scalar).is_some_and(|theirs| theirs != ours) {
+            return Err(format!("the original says otherwise of {name}"));
+        }
+    }
+    let listed = |text: fn(Scalar) -> String| {
+        let all = ALL.map(|(scalar, _)| text(scalar));
+        format!("{} ∷ []", all.join(" ∷ "))
+    };
+    Ok(format!(
+        "\
+-- The scalars' widths and classes as the Rust gives them, and their bits. Written by `oracle table`.
+use mathlib.Core.Path.{{_≡_, refl}}
+use mathlib.Core.Bool.{{true, false, not}}
+use mathlib.Core.List as L
+use mathlib.Core.List.{{List, [], _∷_}}
+use Rattle.lexis.specs.Names.{{byte-width, integer, bit-width}}
+use Rattle.lexis.specs.declared.scalar.Scalar.{{Scalar}}
+use Rattle.lexis.specs.declared.scalar.Scalar.the-variants as S
+
+abbrev all : List Scalar
+all = {}
+
+pub widths : L.map byte-width all ≡ {}
+widths = refl
+
+pub integers : L.map integer all ≡ {}
+integers = refl
+
+pub floats : L.map (λ s. not (integer s)) all ≡ {}
+floats = refl
+
+pub bits : L.map bit-width all ≡ {}
+bits = refl
+",
+        listed(|scalar| format!("S.{scalar:?}")),
+        listed(|scalar| scalar.byte_width().to_string()),
+        listed(|scalar| scalar.is_integer().to_string()),
+        listed(|scalar| scalar.is_float().to_string()),
+        listed(|scalar| scalar.bits().to_string()),
+    ))
 }
 
 /// All of the document, all chosen by hand, and short ones of each group.

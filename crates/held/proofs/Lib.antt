@@ -5,4 +5,5 @@ mod Part4
 mod Part5
 mod Part6
 mod Part7
+mod Scalars
 pub mod Held
