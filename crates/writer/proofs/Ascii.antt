@@ -33,7 +33,7 @@ use Rattle.writer.proofs.Back.{own, answered, strict, back}
 
 -- ── bytes below 128 ──
 
-abbrev low : Text → Bool
+abbrev pub low : Text → Bool
 low [] = true
 low (b ∷ t) = ltb b 128 && low t
 

@@ -1,0 +1,13 @@
+-- On the text of every strict form the ordinary reading and the strict one agree.
+pub mod Shape
+pub mod Bracket
+pub mod Forms
+pub mod Cases
+pub mod Num
+pub mod Names
+pub mod Lists
+pub mod Inner
+pub mod Outer
+pub mod Hole
+pub mod Agrees
+pub mod Accord

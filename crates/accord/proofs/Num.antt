@@ -1,0 +1,158 @@
+-- Numerals: what is written in decimal is read back, digit by digit; and trimming does nothing where nothing is to trim.
+use Prim.Native.Nat.{ℕ, zero, suc, _+_, _-_, _*_, _/_, _%_, _^_, _≤_, _<_}
+use native.Mathlib.Omega.{arith}
+use native.Mathlib.Nat.{mod-lt, zero-lt-suc, div-add-mod, le-refl}
+use mathlib.Core.Bool.{Bool, true, false, _&&_, _||_, not}
+use mathlib.Core.List.{List, [], _∷_}
+use mathlib.Core.Option.{none, some}
+use mathlib.Core.Path.{_≡_, refl, ap, _∙_}
+use lib.Dec.{T, eqb, leb, ltb, le→leb, leb→le, ltb→lt, nltb→le, eqb→eq}
+use lib.IntN.{ℤ, pos, negsuc}
+use Rattle.lexis.specs.Text.{white, trim, less-leading, less-trailing, unless-last, if_then_else_}
+use Rattle.lexis.specs.Numeral.{digit, number-from, number, at-most, minus, numeral}
+use Rattle.meaning.specs.Decimal.{digits, decimal}
+use Rattle.grammar.specs.Tests.{every, and-left, and-right, and-in, is-true, T-not-eq}
+use Rattle.grammar.specs.Digits.{small}
+use Rattle.accord.proofs.Bracket.{apart}
+
+abbrev pub vacant : List ℕ → Bool
+vacant [] = true
+vacant (c ∷ s) = false
+
+digit-ok : (d : ℕ) → d < 10 → T (digit (48 + d))
+digit-ok d h = and-in (leb 48 (48 + d)) (leb (48 + d) 57) (le→leb 48 (48 + d) (omega arith)) (le→leb (48 + d) 57 (omega arith))
+
+horner-step : (a c : ℕ) (s : List ℕ) → T (digit c) → number-from a (c ∷ s) ≡ number-from (a * 10 + (c - 48)) s
+horner-step a c s h = ap (λ (k : Bool). if k then number-from (a * 10 + (c - 48)) s else none) (is-true (digit c) h)
+
+horner-digit : (a d n : ℕ) (s : List ℕ) → d < 10 → a * 10 + d ≡ n → number-from a ((48 + d) ∷ s) ≡ number-from n s
+horner-digit a d n s h e = horner-step a (48 + d) s (digit-ok d h) ∙ ap (λ (z : ℕ). number-from z s) (omega arith)
+
+pub digits-horner : (f n : ℕ) (ds : List ℕ) → n ≤ f → number-from 0 (digits f n ds) ≡ number-from n ds
+digits-horner zero n ds h = let e : n ≡ 0 = omega arith in rw e
+digits-horner (suc f) n ds h = go (ltb n 10) (ltb→lt n 10) (nltb→le n 10) (λ q. digits-horner f (n / 10) ((48 + n % 10) ∷ ds) (small n f h q))
+  where
+    go : (k : Bool) → (T k → n < 10) → (T (not k) → 10 ≤ n) → (10 ≤ n → number-from 0 (digits f (n / 10) ((48 + n % 10) ∷ ds)) ≡ number-from (n / 10) ((48 + n % 10) ∷ ds)) →
+        number-from 0 (elim k [ true ↦ (48 + n) ∷ ds | false ↦ digits f (n / 10) ((48 + n % 10) ∷ ds) ]) ≡ number-from n ds
+    go true p q r = horner-digit 0 n n ds (p tt) (omega arith)
+    go false p q r = r (q tt) ∙ horner-digit (n / 10) (n % 10) n ds (mod-lt n (zero-lt-suc 9)) (let e = div-add-mod n 10 in omega arith)
+
+-- ── classes ──
+pub every-mono : (C D : ℕ → Bool) → ((c : ℕ) → T (C c) → T (D c)) → (t : List ℕ) → T (every C t) → T (every D t)
+every-mono C D f [] h = tt
+every-mono C D f (c ∷ t) h = and-in (D c) (every D t) (f c (and-left (C c) (every C t) h)) (every-mono C D f t (and-right (C c) (every C t) h))
+
+pub digits-digit : (f n : ℕ) (ds : List ℕ) → T (every digit ds) → T (every digit (digits f n ds))
+digits-digit zero n ds h = and-in (digit (48 + n % 10)) (every digit ds) (digit-ok (n % 10) (mod-lt n (zero-lt-suc 9))) h
+digits-digit (suc f) n ds h = go (ltb n 10) (ltb→lt n 10) (digits-digit f (n / 10) ((48 + n % 10) ∷ ds)
+    (and-in (digit (48 + n % 10)) (every digit ds) (digit-ok (n % 10) (mod-lt n (zero-lt-suc 9))) h))
+  where
+    go : (k : Bool) → (T k → n < 10) → T (every digit (digits f (n / 10) ((48 + n % 10) ∷ ds))) →
+        T (every digit (elim k [ true ↦ (48 + n) ∷ ds | false ↦ digits f (n / 10) ((48 + n % 10) ∷ ds) ]))
+    go true q r = and-in (digit (48 + n)) (every digit ds) (digit-ok n (q tt)) h
+    go false q r = r
+
+digits-some : (f n : ℕ) (c : ℕ) (ds : List ℕ) → T (not (vacant (digits f n (c ∷ ds))))
+digits-some zero n c ds = tt
+digits-some (suc f) n c ds = go (ltb n 10) (digits-some f (n / 10) (48 + n % 10) (c ∷ ds))
+  where
+    go : (k : Bool) → T (not (vacant (digits f (n / 10) ((48 + n % 10) ∷ c ∷ ds)))) →
+        T (not (vacant (elim k [ true ↦ (48 + n) ∷ c ∷ ds | false ↦ digits f (n / 10) ((48 + n % 10) ∷ c ∷ ds) ])))
+    go true r = tt
+    go false r = r
+
+pub digits-any : (f n : ℕ) → T (not (vacant (digits f n [])))
+digits-any zero n = tt
+digits-any (suc f) n = go (ltb n 10) (digits-some f (n / 10) (48 + n % 10) [])
+  where
+    go : (k : Bool) → T (not (vacant (digits f (n / 10) ((48 + n % 10) ∷ [])))) →
+        T (not (vacant (elim k [ true ↦ (48 + n) ∷ [] | false ↦ digits f (n / 10) ((48 + n % 10) ∷ []) ])))
+    go true r = tt
+    go false r = r
+
+-- digits, `-` and `?`
+abbrev pub figure : ℕ → Bool
+figure c = digit c || (eqb c 45 || eqb c 63)
+
+abbrev pub visible : ℕ → Bool
+visible c = ltb 32 c
+
+or-left : (a b : Bool) → T a → T (a || b)
+or-left true b h = tt
+or-left false b h = absurd h
+
+pub or-cases : {X : Type 0} (a b : Bool) → (T a → X) → (T b → X) → T (a || b) → X
+or-cases true b f g h = f tt
+or-cases false b f g h = g h
+
+pub figure-visible : (c : ℕ) → T (figure c) → T (visible c)
+figure-visible c h = or-cases (digit c) (eqb c 45 || eqb c 63)
+    (λ d. le→leb 33 c (let p = leb→le 48 c (and-left (leb 48 c) (leb c 57) d) in omega arith))
+    (or-cases (eqb c 45) (eqb c 63) (λ e. le→leb 33 c (let p = eqb→eq c 45 e in omega arith)) (λ e. le→leb 33 c (let p = eqb→eq c 63 e in omega arith))) h
+
+pub decimal-figure : (z : ℤ) → T (every figure (decimal z))
+decimal-figure (pos n) = every-mono digit figure (λ c h. or-left (digit c) (eqb c 45 || eqb c 63) h) (digits n n []) (digits-digit n n [] tt)
+decimal-figure (negsuc n) = every-mono digit figure (λ c h. or-left (digit c) (eqb c 45 || eqb c 63) h) (digits (suc n) (suc n) []) (digits-digit (suc n) (suc n) [] tt)
+
+-- ── trimming does nothing where nothing of the class stands ──
+abbrev pub non : (ℕ → Bool) → ℕ → Bool
+non C c = not (C c)
+
+pub front-none : (C : ℕ → Bool) (t : List ℕ) → T (every (non C) t) → less-leading C t ≡ t
+front-none C [] h = refl
+front-none C (c ∷ t) h =
+    ap (λ (k : Bool). if k then less-leading C t else c ∷ t) (T-not-eq (C c) (and-left (non C c) (every (non C) t) h))
+
+pub keep-same : (C : ℕ → Bool) (c : ℕ) (t : List ℕ) → C c ≡ false → unless-last C c t ≡ c ∷ t
+keep-same C c [] e = ap (λ (k : Bool). if k then [] else c ∷ []) e
+keep-same C c (x ∷ t) e = refl
+
+pub back-none : (C : ℕ → Bool) (t : List ℕ) → T (every (non C) t) → less-trailing C t ≡ t
+back-none C [] h = refl
+back-none C (c ∷ t) h =
+    ap (unless-last C c) (back-none C t (and-right (non C c) (every (non C) t) h)) ∙ keep-same C c t (T-not-eq (C c) (and-left (non C c) (every (non C) t) h))
+
+pub visible-nonwhite : (c : ℕ) → T (visible c) → T (non white c)
+visible-nonwhite c h = let q = leb→le 33 c h in go (white c) (λ w. or-cases (leb 9 c && leb c 13) (eqb c 32) (λ d. let p = leb→le c 13 (and-right (leb 9 c) (leb c 13) d) in omega arith)
+    (λ e. let p = eqb→eq c 32 e in omega arith) w)
+  where
+    go : (k : Bool) → (T k → ⊥) → T (not k)
+    go true f = absurd (f tt)
+    go false f = tt
+
+pub trim-none : (t : List ℕ) → T (every visible t) → trim t ≡ t
+trim-none t h =
+    let n = every-mono visible (non white) visible-nonwhite t h in
+    ap (less-trailing white) (front-none white t n) ∙ back-none white t n
+
+-- ── a numeral is read back ──
+number-some : (t : List ℕ) → T (not (vacant t)) → number t ≡ number-from 0 t
+number-some [] h = absurd h
+number-some (c ∷ t) h = refl
+
+numeral-digits : (w : ℕ) (t : List ℕ) → T (every digit t) → T (not (vacant t)) → numeral w t ≡ at-most (2 ^ (w - 1) - 1) pos (number-from 0 t)
+numeral-digits w [] h k = absurd k
+numeral-digits w (c ∷ t) h k =
+    let d = and-left (digit c) (every digit t) h in
+    ap (λ (b : Bool). if b then at-most (2 ^ (w - 1)) minus (number t) else if eqb c 43 then at-most (2 ^ (w - 1) - 1) pos (number t)
+    else at-most (2 ^ (w - 1) - 1) pos (number (c ∷ t))) (apart digit 45 c tt d)
+    ∙ ap (λ (b : Bool). if b then at-most (2 ^ (w - 1) - 1) pos (number t) else at-most (2 ^ (w - 1) - 1) pos (number (c ∷ t))) (apart digit 43 c tt d)
+
+-- z lies in the range of w bits
+abbrev pub ranged : ℕ → ℤ → Bool
+ranged w (pos n) = leb n (2 ^ (w - 1) - 1)
+ranged w (negsuc n) = leb (suc n) (2 ^ (w - 1))
+
+kept : (limit : ℕ) (value : ℕ → ℤ) (n : ℕ) → T (leb n limit) → at-most limit value (some n) ≡ some (value n)
+kept limit value n h = ap (λ (k : Bool). if k then some (value n) else none) (is-true (leb n limit) h)
+
+pub decimal-visible : (z : ℤ) → T (every visible (decimal z))
+decimal-visible z = every-mono figure visible figure-visible (decimal z) (decimal-figure z)
+
+pub numeral-decimal : (w : ℕ) (z : ℤ) → T (ranged w z) → numeral w (decimal z) ≡ some z
+numeral-decimal w (pos n) h =
+    numeral-digits w (digits n n []) (digits-digit n n [] tt) (digits-any n n)
+    ∙ ap (at-most (2 ^ (w - 1) - 1) pos) (digits-horner n n [] (le-refl n)) ∙ kept (2 ^ (w - 1) - 1) pos n h
+numeral-decimal w (negsuc n) h =
+    ap (at-most (2 ^ (w - 1)) minus) (number-some (digits (suc n) (suc n) []) (digits-any (suc n) (suc n)) ∙ digits-horner (suc n) (suc n) [] (le-refl (suc n)))
+    ∙ kept (2 ^ (w - 1)) minus (suc n) h

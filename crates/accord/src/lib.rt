@@ -1,0 +1,1 @@
+// Theorems alone: what the readers and the writer say of one text.

@@ -1,0 +1,13 @@
+-- The laws that the proofs of the functions cite.
+pub mod Sign
+pub mod Numbers
+pub mod Picking
+pub mod Rows
+pub mod Items
+pub mod Listing
+pub mod Chain
+pub mod Insides
+pub mod Viewing
+pub mod Wholes
+pub mod Answering
+pub mod Bridge

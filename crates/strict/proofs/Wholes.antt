@@ -1,0 +1,34 @@
+-- A whole strict form: which way the number of the first word tells, and a made type at its place.
+use Prim.Native.Nat.{ℕ, _≤_, _<_}
+use mathlib.Core.Bool.{Bool, true, false, cond}
+use mathlib.Core.List.{List}
+use mathlib.Core.Path.{_≡_, refl, subst, sym, ap, _∙_}
+use lib.Dec.{ltb}
+use lib.ListN.{length}
+use Rattle.grammar.specs.Piece.{Answer}
+use Rattle.grammar.specs.Join.{after}
+use Rattle.strict.specs.declared.number.Step.{Step}
+use Rattle.strict.specs.declared.whole.Whole.{Whole}
+use Rattle.strict.specs.Cursor.{Told, valued, place}
+use Rattle.strict.specs.Words.{next, choose}
+use Rattle.strict.specs.Whole as M
+use Rattle.strict.proofs.Insides.{lt-true, lt-false, next-yes, next-no}
+
+module _ (s : List ℕ) (at : ℕ) {p : Answer M.Entire} {w : M.Entire} {e : Step} {r : Whole} where
+  pub made-told : M.Made w e r → Told s at p w e → Told s at p (M.entire r) (r .end)
+  made-told m t = record {
+    same = t .same ∙ (λ i. valued s (sym (m .is) i) (sym (m .at) i));
+    inside = subst (λ (x : Step). place x ≤ length s) (sym (m .at)) (t .inside);
+    onward = subst (λ (x : Step). at ≤ place x) (sym (m .at)) (t .onward);
+  }
+
+module _ (s : List ℕ) (e : Step) (k n : ℕ) (f g : List ℕ → Answer M.Entire) where
+  pub below : k < n → next s (λ r. cond (ltb k n) (f r) (g r)) e ≡ next s f e
+  below h = next-yes s (ltb k n) f g e (lt-true k n h)
+
+  pub above : n ≤ k → next s (λ r. cond (ltb k n) (f r) (g r)) e ≡ next s g e
+  above h = next-no s (ltb k n) f g e (lt-false k n h)
+
+pub whole-is : (s : List ℕ) → M.whole s ≡ after M.from-head (choose M.heads s)
+unfolding M.whole
+whole-is s = refl

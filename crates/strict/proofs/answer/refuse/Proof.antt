@@ -1,0 +1,16 @@
+-- `refuse` meets its contract: the blank record, and no counts.
+use borrow.Author.Needs.{needs}
+use Rattle.meaning.specs.Ordinary.{refused}
+use Rattle.strict.proofs.answer.refuse.Statement.{statement}
+use Rattle.strict.proofs.answer.refuse.Tie as tie
+
+returns : tie.Need-returns
+unfolding refused
+returns c = cc (c .blank .ensures)
+
+pub refuse-spec : {M : Type 1} → statement M
+refuse-spec =
+    tie.close
+    (tie.spec
+    (λ c κs. search needs)
+    returns)

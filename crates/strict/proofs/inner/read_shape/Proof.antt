@@ -1,0 +1,22 @@
+-- `read_shape` meets its contract: what `read_dims` says, or nothing where the part before is stuck.
+use Rattle.strict.specs.Cursor as C
+use Rattle.strict.specs.Words as W
+use Rattle.strict.specs.Inner as I
+use mathlib.Core.Path.{_≡_, ap, _∙_}
+use native.Mathlib.Omega.{arith}
+use borrow.Author.Needs.{needs}
+use Rattle.strict.proofs.inner.read_shape.Statement.{statement}
+use Rattle.strict.proofs.inner.read_shape.Tie as tie
+
+pub read-shape-spec : {M : Type 1} → statement M
+read-shape-spec =
+    tie.close
+    (tie.spec
+    (λ c. search needs)
+    (λ c κs. let p = ap C.place (c .before .from .given .1) in omega arith)
+    (λ c. search needs)
+    (λ c κs. search needs)
+    (λ c. let a = c .before .before .before .before .before .args in let g = c .before .before .from .given .1 in let p = ap C.place g in let e = c .read-dims .ensures in let o = e .onward in
+    record { same = ap (W.next (a .s .now) I.shape) g ∙ e .same; inside = e .inside; onward = omega arith })
+    (λ c. let a = c .before .before .before .before .before .args in let g = c .before .before .from2 .given .1 in let p = ap C.place g in
+    record { same = ap (W.next (a .s .now) I.shape) g; inside = omega arith; onward = omega arith }))

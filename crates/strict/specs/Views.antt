@@ -1,0 +1,126 @@
+-- What stands in each of the three views, as the code reads it: words by their numbers, lists as rows.
+use Prim.Native.Nat.{ℕ, _^_, _+_}
+use mathlib.Core.Bool.{Bool, true, false, cond}
+use mathlib.Core.List.{List}
+use lib.Dec.{eqb, ltb}
+use lib.IntN.{ℤ, pos}
+use Rattle.lexis.specs.Text.{bytes}
+use Rattle.grammar.specs.Piece.{Answer, got, stuck}
+use Rattle.grammar.specs.Join.{mapped, after}
+use Rattle.strict.specs.Cursor.{numeral}
+use Rattle.strict.specs.Words.{choose}
+use Rattle.strict.specs.Rows.{list32}
+use Rattle.strict.specs.Lists.{Row, nothing, pushes, row32}
+use Rattle.strict.specs.Inner.{Tensed, tensor, tensed}
+use Rattle.strict.specs.declared.view.Sight.{Sight}
+use Rattle.strict.specs.declared.view.Scene.{Scene}
+use Rattle.strict.specs.declared.view.View.{View}
+
+-- ── tables ──
+abbrev pub pads : List ℕ
+pads = bytes "zero|neg_zero|nan|pos_inf|neg_inf|"
+
+abbrev pub leads : List ℕ
+leads = bytes ",tensor_view<|, tensor_view<|,!cuda_tile.tensor_view<|, !cuda_tile.tensor_view<|,tensor_view=!cuda_tile.tensor_view<|, tensor_view=!cuda_tile.tensor_view<|"
+
+-- after the entries of the tile, and after those of the traversal
+abbrev pub mids : List ℕ
+mids = bytes "),padding_value=|), padding_value=|),tensor_view<|), tensor_view<|),!cuda_tile.tensor_view<|), !cuda_tile.tensor_view<|),tensor_view=!cuda_tile.tensor_view<|), tensor_view=!cuda_tile.tensor_view<|"
+
+abbrev pub walk-mids : List ℕ
+walk-mids = bytes "],padding_value=|], padding_value=|],tensor_view<|], tensor_view<|],!cuda_tile.tensor_view<|], !cuda_tile.tensor_view<|],tensor_view=!cuda_tile.tensor_view<|], tensor_view=!cuda_tile.tensor_view<|"
+
+abbrev pub maps : List ℕ
+maps = bytes ",dim_map=[|, dim_map=[|"
+
+abbrev pub sparses : List ℕ
+sparses = bytes ",sparse_dim=|, sparse_dim=|"
+
+abbrev pub travels : List ℕ
+travels = bytes "),traversal_strides=[|), traversal_strides=[|"
+
+-- ── the tensor view, and the padding before it ──
+pub record Seen : Type 0 where
+  pub padded : Bool
+  pub pad : ℕ
+  pub tensor : Tensed
+
+abbrev pub seen : Bool → ℕ → Tensed → Seen
+seen b p t = record { padded = b; pad = p; tensor = t }
+
+abbrev pub led : ℕ → List ℕ → Answer Seen
+led p r = after (λ (k : ℕ) x. mapped (seen true p) (tensor x)) (choose leads r)
+
+unfoldable pub sight : ℕ → List ℕ → Answer Seen
+sight k t = cond (ltb k 2) (after led (choose pads t)) (mapped (seen false 0) (tensor t))
+
+abbrev pub sighted : Sight → Seen
+sighted v = record { padded = v .padded; pad = v .pad; tensor = tensed (v .tensor) }
+
+-- ── a list, and the tensor view ──
+abbrev pub entries : Bool → List ℕ → Answer Row
+entries b t = mapped (pushes nothing) (list32 b t)
+
+unfoldable pub mid : Bool → List ℕ → Answer ℕ
+mid b t = cond b (choose mids t) (choose walk-mids t)
+
+pub record Staged : Type 0 where
+  pub list : Row
+  pub sight : Seen
+
+abbrev pub stage : Row → Seen → Staged
+stage l v = record { list = l; sight = v }
+
+unfoldable pub scene : Bool → List ℕ → Answer Staged
+scene b t = after (λ l r. after (λ k x. mapped (stage l) (sight k x)) (mid b r)) (entries b t)
+
+abbrev pub staged : Scene → Staged
+staged v = record { list = row32 (v .list); sight = sighted (v .sight) }
+
+-- ── the ends ──
+abbrev pub map-tail : Row → List ℕ → Answer Row
+map-tail l r = mapped (λ (k : ℕ). l) (choose (bytes "]>|") r)
+
+abbrev pub map-from : ℕ → List ℕ → Answer Row
+map-from k r = after map-tail (entries false r)
+
+unfoldable pub map-part : List ℕ → Answer Row
+map-part t = after map-from (choose maps t)
+
+abbrev pub small : List ℕ → Answer ℤ
+small = numeral (2 ^ 31) (2 ^ 31 + 1)
+
+abbrev pub sparse-tail : ℤ → List ℕ → Answer ℤ
+sparse-tail z r = mapped (λ (k : ℕ). z) (choose (bytes ">|") r)
+
+abbrev pub sparse-from : ℕ → List ℕ → Answer ℤ
+sparse-from k r = after sparse-tail (small r)
+
+unfoldable pub sparse-part : List ℕ → Answer ℤ
+sparse-part t = after sparse-from (choose sparses t)
+
+-- ── the views ──
+pub record Viewed : Type 0 where
+  pub tile : Row
+  pub sight : Seen
+  pub map : Row
+  pub walk : Row
+  pub sparse : ℤ
+
+abbrev pub viewed : Row → Seen → Row → Row → ℤ → Viewed
+viewed t v m w z = record { tile = t; sight = v; map = m; walk = w; sparse = z }
+
+unfoldable pub partition : List ℕ → Answer Viewed
+partition t = after (λ c r. mapped (λ m. viewed (c .list) (c .sight) m nothing (pos 0)) (map-part r)) (scene true t)
+
+unfoldable pub gather : List ℕ → Answer Viewed
+gather t = after (λ c r. mapped (λ z. viewed (c .list) (c .sight) nothing nothing z) (sparse-part r)) (scene true t)
+
+abbrev pub walk-rest : Row → List ℕ → Answer Viewed
+walk-rest l t = after (λ c r. mapped (λ m. viewed l (c .sight) m (c .list) (pos 0)) (map-part r)) (scene false t)
+
+unfoldable pub strided : List ℕ → Answer Viewed
+strided t = after (λ l r. after (λ (k : ℕ) x. walk-rest l x) (choose travels r)) (entries true t)
+
+abbrev pub shown : View → Viewed
+shown v = record { tile = row32 (v .tile); sight = sighted (v .sight); map = row32 (v .map); walk = row32 (v .walk); sparse = v .sparse }

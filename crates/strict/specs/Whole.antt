@@ -1,0 +1,129 @@
+-- A whole strict form, as the code reads it: the first word, by its number, tells the kind and what follows.
+use Prim.Native.Nat.{ℕ}
+use mathlib.Core.Bool.{Bool, true, false, cond}
+use mathlib.Core.List.{List}
+use mathlib.Core.Path.{_≡_}
+use lib.Dec.{ltb}
+use lib.IntN.{ℤ, pos}
+use Rattle.lexis.specs.Text.{bytes}
+use Rattle.meaning.specs.declared.Kind.{Kind}
+use Rattle.meaning.specs.declared.Kind.the-variants as K
+use Rattle.grammar.specs.Piece.{Answer, got}
+use Rattle.grammar.specs.Join.{mapped, after}
+use Rattle.strict.specs.Words.{choose}
+use Rattle.strict.specs.Lists.{Row, nothing, row32, row64}
+use Rattle.strict.specs.Inner.{Cored, Tiled, Tensed, pointee, close, tile, tensor}
+use Rattle.strict.specs.Views.{Viewed, partition, gather, strided}
+use Rattle.strict.specs.declared.number.Step.{Step}
+use Rattle.strict.specs.declared.whole.Whole.{Whole}
+
+abbrev pub heads : List ℕ
+heads = bytes "i1|i4|i8|i16|i32|i64|f16|bf16|f32|tf32|f64|f8E4M3FN|f8e4m3fn|f8E5M2|f8e5m2|f8E8M0FNU|f8e8m0fnu|f4E2M1FN|f4e2m1fn|f8E5M3FNU|f8e5m3fnu|bool|token|!cuda_tile.token|ptr<|!cuda_tile.ptr<|tile<|!cuda_tile.tile<|tensor_view<|!cuda_tile.tensor_view<|partition_view<tile=(|!cuda_tile.partition_view<tile=(|gather_scatter_view<tile=(|!cuda_tile.gather_scatter_view<tile=(|strided_view<tile=(|!cuda_tile.strided_view<tile=(|"
+
+-- a type of any rank, with a scalar and a padding by their numbers
+pub record Entire : Type 0 where
+  pub kind : Kind
+  pub pointer : Bool
+  pub word : ℕ
+  pub marked : Bool
+  pub shape : Row
+  pub strides : Row
+  pub tile : Row
+  pub map : Row
+  pub walk : Row
+  pub sparse : ℤ
+  pub padded : Bool
+  pub pad : ℕ
+
+abbrev pub simple : Kind → Bool → ℕ → Bool → Row → Row → Entire
+simple k p w m sh st = record {
+  kind = k;
+  pointer = p;
+  word = w;
+  marked = m;
+  shape = sh;
+  strides = st;
+  tile = nothing;
+  map = nothing;
+  walk = nothing;
+  sparse = pos 0;
+  padded = false;
+  pad = 0;
+}
+
+abbrev pub scalar-of : ℕ → Entire
+scalar-of k = simple K.Scalar false k false nothing nothing
+
+abbrev pub token : Entire
+token = simple K.Token false 0 false nothing nothing
+
+abbrev pub pointer-of : Cored → Entire
+pointer-of c = simple K.Pointer false (c .word) (c .marked) nothing nothing
+
+abbrev pub tile-of : Tiled → Entire
+tile-of t = simple K.Tile (t .core .pointer) (t .core .word) (t .core .marked) (t .shape) nothing
+
+abbrev pub tensor-of : Tensed → Entire
+tensor-of t = simple K.TensorView false (t .word) (t .rest .marked) (t .shape) (t .rest .strides)
+
+abbrev pub view-of : Kind → Viewed → Entire
+view-of k v = record {
+  kind = k;
+  pointer = false;
+  word = v .sight .tensor .word;
+  marked = v .sight .tensor .rest .marked;
+  shape = v .sight .tensor .shape;
+  strides = v .sight .tensor .rest .strides;
+  tile = v .tile;
+  map = v .map;
+  walk = v .walk;
+  sparse = v .sparse;
+  padded = v .sight .padded;
+  pad = v .sight .pad;
+}
+
+-- what follows the first word, by its number
+abbrev pub from-gather : ℕ → List ℕ → Answer Entire
+from-gather k r = cond (ltb k 34) (mapped (view-of K.GatherScatter) (gather r)) (mapped (view-of K.Strided) (strided r))
+
+abbrev pub from-partition : ℕ → List ℕ → Answer Entire
+from-partition k r = cond (ltb k 32) (mapped (view-of K.Partition) (partition r)) (from-gather k r)
+
+abbrev pub from-tensor : ℕ → List ℕ → Answer Entire
+from-tensor k r = cond (ltb k 30) (mapped tensor-of (tensor r)) (from-partition k r)
+
+abbrev pub from-tile : ℕ → List ℕ → Answer Entire
+from-tile k r = cond (ltb k 28) (mapped tile-of (tile r)) (from-tensor k r)
+
+abbrev pub from-pointer : ℕ → List ℕ → Answer Entire
+from-pointer k r = cond (ltb k 26) (mapped pointer-of (pointee close r)) (from-tile k r)
+
+abbrev pub from-token : ℕ → List ℕ → Answer Entire
+from-token k r = cond (ltb k 24) (got token r) (from-pointer k r)
+
+abbrev pub from-head : ℕ → List ℕ → Answer Entire
+from-head k r = cond (ltb k 22) (got (scalar-of k) r) (from-token k r)
+
+unfoldable pub whole : List ℕ → Answer Entire
+whole t = after from-head (choose heads t)
+
+abbrev pub entire : Whole → Entire
+entire w = record {
+  kind = w .kind;
+  pointer = w .pointer;
+  word = w .word;
+  marked = w .marked;
+  shape = row64 (w .shape);
+  strides = row64 (w .strides);
+  tile = row32 (w .tile);
+  map = row32 (w .map);
+  walk = row32 (w .walk);
+  sparse = w .sparse;
+  padded = w .padded;
+  pad = w .pad;
+}
+
+-- such a type, up to a place
+pub record Made (w : Entire) (e : Step) (r : Whole) : Type 0 where
+  pub is : entire r ≡ w
+  pub at : r .end ≡ e
