@@ -20,7 +20,7 @@ pub struct Parsed {
     pub note: Note,
 }
 
-pub fn nothing() -> Parsed
+pub(crate) fn nothing() -> Parsed
     ensures { λ r. ⌜ said r ≡ none ⌝ }
 {
     let value = meaning::blank();
@@ -37,7 +37,7 @@ pub fn nothing() -> Parsed
 }
 
 // A type with the lists of a tensor and of a view.
-pub fn made(
+pub(crate) fn made(
     kind: Kind,
     element: Scalar,
     pointer: bool,
@@ -91,7 +91,13 @@ pub fn made(
 }
 
 // A type without a view's lists.
-pub fn simple(kind: Kind, element: Scalar, pointer: bool, shape: List64, strides: List64) -> Parsed
+pub(crate) fn simple(
+    kind: Kind,
+    element: Scalar,
+    pointer: bool,
+    shape: List64,
+    strides: List64,
+) -> Parsed
     requires { ⌜ Few (list64 shape) × Few (list64 strides) ⌝ }
     ensures { λ r. ⌜ said r ≡ some (built kind element pointer (list64 shape) (list64 strides) (laid 8 unused) (laid 8 unused) (laid 8 unused) (laid 8 unused) Absent) ⌝ }
 {

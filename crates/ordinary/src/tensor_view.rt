@@ -25,7 +25,7 @@ pub struct Tensor {
 }
 
 // `[shape x]scalar, strides=[strides]`.
-pub fn parse_tensor(inner: &[u8]) -> Tensor
+pub(crate) fn parse_tensor(inner: &[u8]) -> Tensor
     requires { ⌜ length (now inner) ≤ 1024 ⌝ }
     ensures { λ r. ⌜ Tensor-is r (tensor (now (inner .entry))) ⌝ }
 {
@@ -94,7 +94,7 @@ fn parse_strides(s: &[u8]) -> List64
     )
 }
 
-pub fn no_tensor() -> Tensor
+pub(crate) fn no_tensor() -> Tensor
     ensures { λ r. ⌜ Tensor-is r none ⌝ }
 {
     let l = lists::none64();
@@ -106,7 +106,7 @@ pub fn no_tensor() -> Tensor
     }
 }
 
-pub fn parse_tensor_view(inner: &[u8]) -> Parsed
+pub(crate) fn parse_tensor_view(inner: &[u8]) -> Parsed
     requires { ⌜ length (now inner) ≤ 1024 ⌝ }
     ensures { λ r. ⌜ said r ≡ each (shown 8) (tensor-view (now (inner .entry))) ⌝ }
 {

@@ -20,7 +20,7 @@ ghost use Rattle.lists.specs.Laid.{list64};
 ghost use Rattle.ordinary.specs.Shown.{said, shown, Reads};
 
 // `[shape x]elem` where shape is `dim[xdim]*` and elem is a scalar or a pointer.
-pub fn parse_tile(inner: &[u8]) -> Parsed
+pub(crate) fn parse_tile(inner: &[u8]) -> Parsed
     requires { ⌜ length (now inner) ≤ 1024 ⌝ }
     ensures { λ r. ⌜ said r ≡ each (shown 8) (tile (now (inner .entry))) ⌝ }
 {

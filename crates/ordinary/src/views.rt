@@ -46,7 +46,7 @@ pub enum Closed {
     Between(usize, usize),
 }
 
-pub fn parse_view_tile_shape(inner: &[u8]) -> TileShape
+pub(crate) fn parse_view_tile_shape(inner: &[u8]) -> TileShape
     requires { ⌜ length (now inner) ≤ 1024 ⌝ }
     ensures { λ r. ⌜ Tile-is (now (inner .entry)) r (between (bytes "tile=(") (bytes ")") (now (inner .entry))) ⌝ }
 {
@@ -92,7 +92,7 @@ fn tile_entries(s: &[u8]) -> List32
 }
 
 // Looked for only if `padding_value` occurs, and anywhere in the part.
-pub fn parse_padding_value(inner: &[u8]) -> Padding
+pub(crate) fn parse_padding_value(inner: &[u8]) -> Padding
     ensures { λ r. ⌜ r ≡ padding (now (inner .entry)) ⌝ }
 {
     if !lexis::contains(inner, b"padding_value") {
@@ -117,7 +117,7 @@ pub fn parse_padding_value(inner: &[u8]) -> Padding
 }
 
 // The inner tensor view: after a prefix anywhere, or after `tensor_view<` past the tile's `)`.
-pub fn parse_nested_tensor_view(inner: &[u8], behind: usize) -> Tensor
+pub(crate) fn parse_nested_tensor_view(inner: &[u8], behind: usize) -> Tensor
     requires { ⌜ (length (now inner) ≤ 1024) × (behind ≤ length (now inner)) ⌝ }
     ensures { λ r. ⌜ Tensor-is r (inner-by (opened (now (inner .entry)) (drop behind (now (inner .entry))))) ⌝ }
 {
@@ -151,7 +151,7 @@ fn parse_enclosed(s: &[u8]) -> Tensor
     }
 }
 
-pub fn parse_view(inner: &[u8]) -> View
+pub(crate) fn parse_view(inner: &[u8]) -> View
     requires { ⌜ length (now inner) ≤ 1024 ⌝ }
     ensures { λ r. ⌜ View-is r (view (now (inner .entry))) ⌝ }
 {
@@ -183,7 +183,7 @@ fn no_view() -> View
 }
 
 // Where the list after the first `prefix` stands.
-pub fn list_after(inner: &[u8], prefix: &[u8]) -> Closed
+pub(crate) fn list_after(inner: &[u8], prefix: &[u8]) -> Closed
     ensures { λ r. ⌜ List-is (now (inner .entry)) r (list-after (now (prefix .entry)) (now (inner .entry))) ⌝ }
 {
     match lexis::find(inner, prefix) {
@@ -199,7 +199,7 @@ pub fn list_after(inner: &[u8], prefix: &[u8]) -> Closed
 }
 
 // The list after `prefix`, or `own` where it is absent or never closed.
-pub fn parse_i32_list_after(inner: &[u8], prefix: &[u8], own: List32) -> List32
+pub(crate) fn parse_i32_list_after(inner: &[u8], prefix: &[u8], own: List32) -> List32
     requires { ⌜ (length (now inner) ≤ 1024) × Few (list32 own) ⌝ }
     ensures { λ r. ⌜ (list32 r ≡ list-laid (list32 own) (list-after (now (prefix .entry)) (now (inner .entry)))) × Few (list32 r) ⌝ }
 {
@@ -251,7 +251,7 @@ fn view_of(kind: Kind, v: View, map: List32, traversal: List32, sparse: List32) 
 }
 
 // `tile=(dims), [padding_value=X,] tensor_view<...>[, dim_map=[...]]`.
-pub fn parse_partition_view(inner: &[u8]) -> Parsed
+pub(crate) fn parse_partition_view(inner: &[u8]) -> Parsed
     requires { ⌜ length (now inner) ≤ 1024 ⌝ }
     ensures { λ r. ⌜ said r ≡ each (shown 8) (partition-view (now (inner .entry))) ⌝ }
 {
@@ -281,7 +281,7 @@ pub fn parse_partition_view(inner: &[u8]) -> Parsed
     }
 }
 
-pub fn parse_gather_scatter_view(inner: &[u8]) -> Parsed
+pub(crate) fn parse_gather_scatter_view(inner: &[u8]) -> Parsed
     requires { ⌜ length (now inner) ≤ 1024 ⌝ }
     ensures { λ r. ⌜ said r ≡ each (shown 8) (gather-scatter-view (now (inner .entry))) ⌝ }
 {
@@ -298,7 +298,7 @@ pub fn parse_gather_scatter_view(inner: &[u8]) -> Parsed
     )
 }
 
-pub fn parse_strided_view(inner: &[u8]) -> Parsed
+pub(crate) fn parse_strided_view(inner: &[u8]) -> Parsed
     requires { ⌜ length (now inner) ≤ 1024 ⌝ }
     ensures { λ r. ⌜ said r ≡ each (shown 8) (strided-view (now (inner .entry))) ⌝ }
 {
