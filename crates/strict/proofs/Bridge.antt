@@ -1,25 +1,32 @@
--- The code's readers against the grammar's pieces: names, pointers, a tile's element. The same texts; words' numbers stand for what they mean.
-use Prim.Native.Nat.{ℕ}
+-- The code's readers walk together with the grammar's pieces: pointers, tiles, tensor views. Words' numbers stand for what they mean.
+use Prim.Native.Nat.{ℕ, _+_}
+use native.Mathlib.Omega.{arith}
 use mathlib.Core.Bool.{Bool, true, false, cond}
-use mathlib.Core.List.{List}
-use mathlib.Core.Path.{_≡_, refl, sym, ap, _∙_}
+use mathlib.Core.List.{List, [], _∷_, _++_}
+use mathlib.Core.Path.{_≡_, refl, subst, sym, ap, _∙_}
 use lib.Dec.{eqb, ltb}
+use borrow.Author.Tests.{ne-eqb}
 use Rattle.lexis.specs.Text.{bytes}
 use Rattle.lexis.specs.declared.scalar.Scalar.{Scalar}
-use Rattle.lexis.specs.declared.scalar.Scalar.the-variants.{I1}
-use Rattle.meaning.specs.Strict.{scalars, nth}
 use Rattle.grammar.specs.Piece.{Answer, got, stuck}
 use Rattle.grammar.specs.Join.{mapped, after}
 use Rattle.grammar.specs.Table.{pick}
 use Rattle.grammar.specs.Spelt.{listed, two}
 use Rattle.grammar.specs.Elements as G
+use Rattle.grammar.specs.Elements.{ends}
 use Rattle.strict.specs.Words.{choose}
 use Rattle.strict.specs.Inner as I
 use lib.IntN.{ℤ}
+use lib.ListN.{length}
 use Rattle.grammar.specs.Until.{Ended}
+use Rattle.grammar.specs.Until as U
 use Rattle.grammar.specs.Several as S
-use Rattle.strict.specs.Rows.{dims64}
-use Rattle.strict.specs.Lists.{Row, nothing, pushes}
+use Rattle.grammar.specs.Body as B
+use Rattle.strict.specs.Rows.{dims64, list64}
+use Rattle.strict.specs.Lists.{Row, nothing, pushed, pushes}
+use Rattle.strict.specs.Plain.{scalar}
+use Rattle.strict.proofs.Together.{Same, both, neither, along, convey, label, closing, close, ended, ended-then}
+use Rattle.strict.proofs.Endings.{large-list}
 use Rattle.strict.proofs.Rows.{parts}
 use Rattle.strict.proofs.Picking.{choose-label}
 
@@ -32,9 +39,6 @@ join h f′ f g e (stuck r) = refl
 pub twice : {A B D : Type 0} (f : A → B) (g : B → D) (p : Answer A) → mapped g (mapped f p) ≡ mapped (λ a. g (f a)) p
 twice f g (got a r) = refl
 twice f g (stuck r) = refl
-
-abbrev pub scalar : ℕ → Scalar
-scalar k = nth I1 scalars k
 
 abbrev pub marked : ℕ → Bool
 marked k = eqb k 1
@@ -83,28 +87,63 @@ core-is t = ap (after (λ (k : G.Kern). G.kern-tail k .read)) (kern-is t) ∙ jo
     by k r false = pointee-both-is r
 
 -- ── a tile ──
-pub record Tiled : Type 0 where
-  pub shape : Row
-  pub core : G.Core
+pub record Tile~ (e : Ended ℤ G.Core) (c : I.Tiled) : Type 0 where
+  pub shape : pushes nothing (e .items) ≡ c .shape
+  pub core : e .last ≡ core-said (c .core)
 
-abbrev pub tile-seen : Ended ℤ G.Core → Tiled
-tile-seen e = record { shape = pushes nothing (e .items); core = e .last }
-
-abbrev pub tile-said : I.Tiled → Tiled
-tile-said c = record { shape = c .shape; core = core-said (c .core) }
-
-abbrev ending : List ℤ → G.Core → Ended ℤ G.Core
-ending zs b = record { items = zs; last = b }
-
-pub tile-is : (t : List ℕ) → mapped tile-seen (G.tile-inside .read t) ≡ mapped tile-said (I.tile t)
+pub tile-is : (t : List ℕ) → Same Tile~ (G.tile-inside .read t) (I.tile t)
 unfolding I.tile dims64
-tile-is t = ap (mapped tile-seen) (parts S.dimx G.core tt (λ a. S.nothing (bytes "ibftp!")) refl t) ∙ by (dims64 t)
-  where
-    same : (zs : List ℤ) (q : Answer I.Cored) → mapped tile-seen (mapped (ending zs) (mapped core-said q)) ≡ mapped tile-said (mapped (I.tile-of (pushes nothing zs)) q)
-    same zs (got c r) = refl
-    same zs (stuck r) = refl
+tile-is t = subst (λ (p : Answer (Ended ℤ G.Core)). Same Tile~ p (I.tile t)) (sym (parts S.dimx G.core tt (λ a. S.nothing (bytes "ibftp!")) refl t))
+    (ended (G.core .read) I.core (λ x. label core-said (G.core .read x) (I.core x) (core-is x)) I.tile-of (λ zs b k h. record { shape = refl; core = h }) (dims64 t))
 
-    by : (p : Answer (List ℤ)) → mapped tile-seen (after (λ zs x. mapped (ending zs) (G.core .read x)) p) ≡
-        mapped tile-said (after (λ l r. mapped (I.tile-of l) (I.core r)) (mapped (pushes nothing) p))
-    by (got zs r) = ap (λ (q : Answer G.Core). mapped tile-seen (mapped (ending zs) q)) (core-is r) ∙ same zs (I.core r)
-    by (stuck r) = refl
+-- ── a tensor view: the strides' list and its end, what follows the name, the whole ──
+pub record Rest~ (e : Ended ℤ Bool) (c : I.Rested) : Type 0 where
+  pub strides : pushes nothing (e .items) ≡ c .strides
+  pub mark : e .last ≡ c .marked
+
+pub listed-is : (t : List ℕ) → Same Rest~ (B.strides-list .read t) (I.listed t)
+unfolding I.listed
+listed-is t = subst (λ (p : Answer (Ended ℤ Bool)). Same Rest~ p (I.listed t)) (sym (large-list B.brackets tt tt refl t))
+    (ended (B.brackets .read) (choose I.brackets) (λ x. label marked (B.brackets .read x) (choose I.brackets x) (choose-label marked I.brackets x)) I.rest-of
+    (λ zs b k h. record { strides = refl; mark = h }) (list64 t))
+
+abbrev turn-of : Bool → Bool → B.Turn
+turn-of true m = B.close m
+turn-of false m = B.list
+
+abbrev turn-said : ℕ → B.Turn
+turn-said k = turn-of (ltb k 2) (marked k)
+
+pub pushes-len : (l : Row) (zs : List ℤ) → pushes l zs .len ≡ l .len + length zs
+pushes-len l [] = omega arith
+pushes-len l (z ∷ zs) = let h = pushes-len (pushed l z) zs in omega arith
+
+-- at rank 0 the strides may be absent
+pub rest-is : (zs : List ℤ) (t : List ℕ) → Same Rest~ (B.after zs .read t) (I.rest (pushes nothing zs .len) t)
+unfolding I.rest
+rest-is [] t = along (λ u. B.turnQ u .read) I.begun (label turn-said (pick t (listed (ends (bytes ">")) B.close two ++ listed B.intro (λ s. B.list) two)) (choose I.opened t) (choose-label turn-said I.opened t))
+    (λ u k r h. subst (λ (u : B.Turn). Same Rest~ (B.turnQ u .read r) (I.begun k r)) (sym h) (by k r (ltb k 2)))
+  where
+    by : (k : ℕ) (r : List ℕ) (b : Bool) → Same Rest~ (B.turnQ (turn-of b (marked k)) .read r) (cond b (got (I.rest-of nothing k) r) (I.listed r))
+    by k r true = both (U.ended (marked k)) (I.rest-of nothing k) r (record { strides = refl; mark = refl })
+    by k r false = listed-is r
+rest-is (z ∷ zs) t = subst (λ (b : Bool). Same Rest~ (B.must .read t) (cond b (after I.begun (choose I.opened t)) (after I.given (choose I.must t)))) (sym some)
+    (along (λ (s : Bool). B.strides-list .read) I.given (label (λ k. marked k) (pick t (listed B.intro (λ (s : Bool). s) two)) (choose I.must t) (choose-label marked I.must t)) (λ s k r h. listed-is r))
+  where
+    some : eqb (pushes (pushed nothing z) zs .len) 0 ≡ false
+    some = ne-eqb (pushes (pushed nothing z) zs .len) 0 (let h = pushes-len (pushed nothing z) zs in omega arith)
+
+pub record Tens~ (e : B.Tens) (c : I.Tensed) : Type 0 where
+  pub shape : pushes nothing (e .shape) ≡ c .shape
+  pub element : e .element ≡ scalar (c .word)
+  pub strides : pushes nothing (e .strides) ≡ c .rest .strides
+  pub mark : e .attribute ≡ c .rest .marked
+
+pub tensor-is : (t : List ℕ) → Same Tens~ (B.tensor-inside .read t) (I.tensor t)
+unfolding I.tensor dims64
+tensor-is t = subst (λ (p : Answer (Ended ℤ Scalar)). Same Tens~ (after rest p) (I.tensor t)) (sym (parts S.dimx G.names tt (λ a. S.nothing (bytes "ibft")) refl t))
+    (ended-then (G.names .read) (choose I.names) (λ x. label scalar (G.names .read x) (choose I.names x) (name-is x)) rest (λ l k x. mapped (I.tens-of l k) (I.rest (l .len) x))
+    (λ zs b k x h. convey (B.tens (closing zs b)) (I.tens-of (pushes nothing zs) k) (rest-is zs x) (λ e c q. record { shape = refl; element = h; strides = q .strides; mark = q .mark })) (dims64 t))
+  where
+    rest : Ended ℤ Scalar → List ℕ → Answer B.Tens
+    rest e x = mapped (B.tens e) (B.after (e .items) .read x)

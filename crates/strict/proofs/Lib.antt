@@ -10,4 +10,6 @@ pub mod Insides
 pub mod Viewing
 pub mod Wholes
 pub mod Answering
+pub mod Together
+pub mod Endings
 pub mod Bridge

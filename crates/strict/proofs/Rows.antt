@@ -58,7 +58,7 @@ module _ {F : List ℕ} {E : ℤ → List ℕ} (P : Piece false F ℤ E) where
     abbrev pub close : List ℤ → List ℕ → Answer (Ended ℤ B)
     close zs x = mapped (closing zs) (Q .read x)
 
-    one-more : (a : ℤ) (p : Answer (List ℤ)) → mapped (first a) (after close p) ≡ after close (mapped (more a) p)
+    pub one-more : (a : ℤ) (p : Answer (List ℤ)) → mapped (first a) (after close p) ≡ after close (mapped (more a) p)
     one-more a (got zs x) = by (Q .read x)
       where
         by : (q : Answer B) → mapped (first a) (mapped (closing zs) q) ≡ mapped (closing (more a zs)) q
@@ -82,3 +82,8 @@ module _ {F : List ℕ} {E : ℤ → List ℕ} (P : Piece false F ℤ E) where
 
     pub parts : (t : List ℕ) → until-read P Q sep fol t ≡ after close (rows P t)
     parts t = all (suc (length t)) t
+
+    -- and a first entry before them
+    pub list : (p : Answer ℤ) → after (λ a r. mapped (first a) (until-read P Q sep fol r)) p ≡ after close (after (λ z r. mapped (more z) (rows P r)) p)
+    list (got a r) = ap (mapped (first a)) (parts r) ∙ one-more a (rows P r)
+    list (stuck r) = refl

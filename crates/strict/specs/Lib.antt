@@ -6,3 +6,4 @@ pub mod Lists
 pub mod Inner
 pub mod Views
 pub mod Whole
+pub mod Plain
