@@ -13,3 +13,5 @@ pub mod Answering
 pub mod Together
 pub mod Endings
 pub mod Bridge
+pub mod BridgeViews
+pub mod BridgeWhole
