@@ -33,7 +33,7 @@ Whole~ a c = seen a ≡ said c
 
 -- ── the first word ──
 abbrev head-of : Bool → Bool → Bool → Bool → Bool → Bool → Bool → H.Head → H.Head
-head-of s t p l v r g scalar = cond s scalar (cond t H.token (cond p H.ptr (cond l H.tile (cond v H.tensor (cond r H.partition (cond g H.gather H.strided))))))
+head-of s t p l v r g name = cond s name (cond t H.token (cond p H.ptr (cond l H.tile (cond v H.tensor (cond r H.partition (cond g H.gather H.strided))))))
 
 abbrev head-said : ℕ → H.Head
 head-said k = head-of (ltb k 22) (ltb k 24) (ltb k 26) (ltb k 28) (ltb k 30) (ltb k 32) (ltb k 34) (H.scalar (scalar k))
