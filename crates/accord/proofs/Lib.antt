@@ -11,3 +11,4 @@ pub mod Outer
 pub mod Hole
 pub mod Agrees
 pub mod Accord
+pub mod Table
