@@ -15,3 +15,5 @@ pub mod Endings
 pub mod Bridge
 pub mod BridgeViews
 pub mod BridgeWhole
+pub mod Judging
+pub mod Unique

@@ -1,7 +1,7 @@
 -- What stands in each of the three views, as the code reads it: words by their numbers, lists as rows.
 use Prim.Native.Nat.{ℕ, _^_, _+_}
 use mathlib.Core.Bool.{Bool, true, false, cond}
-use mathlib.Core.List.{List}
+use mathlib.Core.List.{List, _++_}
 use lib.Dec.{eqb, ltb}
 use lib.IntN.{ℤ, pos}
 use Rattle.lexis.specs.Text.{bytes}
@@ -25,10 +25,16 @@ leads = bytes ",tensor_view<|, tensor_view<|,!cuda_tile.tensor_view<|, !cuda_til
 
 -- after the entries of the tile, and after those of the traversal
 abbrev pub mids : List ℕ
-mids = bytes "),padding_value=|), padding_value=|),tensor_view<|), tensor_view<|),!cuda_tile.tensor_view<|), !cuda_tile.tensor_view<|),tensor_view=!cuda_tile.tensor_view<|), tensor_view=!cuda_tile.tensor_view<|"
+mids =
+    bytes "),padding_value=|), padding_value=|),tensor_view<|), tensor_view<|" ++
+    bytes "),!cuda_tile.tensor_view<|), !cuda_tile.tensor_view<|" ++
+    bytes "),tensor_view=!cuda_tile.tensor_view<|), tensor_view=!cuda_tile.tensor_view<|"
 
 abbrev pub walk-mids : List ℕ
-walk-mids = bytes "],padding_value=|], padding_value=|],tensor_view<|], tensor_view<|],!cuda_tile.tensor_view<|], !cuda_tile.tensor_view<|],tensor_view=!cuda_tile.tensor_view<|], tensor_view=!cuda_tile.tensor_view<|"
+walk-mids =
+    bytes "],padding_value=|], padding_value=|],tensor_view<|], tensor_view<|" ++
+    bytes "],!cuda_tile.tensor_view<|], !cuda_tile.tensor_view<|" ++
+    bytes "],tensor_view=!cuda_tile.tensor_view<|], tensor_view=!cuda_tile.tensor_view<|"
 
 abbrev pub maps : List ℕ
 maps = bytes ",dim_map=[|, dim_map=[|"

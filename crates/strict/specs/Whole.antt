@@ -1,7 +1,7 @@
 -- A whole strict form, as the code reads it: the first word, by its number, tells the kind and what follows.
 use Prim.Native.Nat.{ℕ}
 use mathlib.Core.Bool.{Bool, true, false, cond}
-use mathlib.Core.List.{List}
+use mathlib.Core.List.{List, _++_}
 use mathlib.Core.Path.{_≡_}
 use lib.Dec.{ltb}
 use lib.IntN.{ℤ, pos}
@@ -18,7 +18,13 @@ use Rattle.strict.specs.declared.number.Step.{Step}
 use Rattle.strict.specs.declared.whole.Whole.{Whole}
 
 abbrev pub heads : List ℕ
-heads = bytes "i1|i4|i8|i16|i32|i64|f16|bf16|f32|tf32|f64|f8E4M3FN|f8e4m3fn|f8E5M2|f8e5m2|f8E8M0FNU|f8e8m0fnu|f4E2M1FN|f4e2m1fn|f8E5M3FNU|f8e5m3fnu|bool|token|!cuda_tile.token|ptr<|!cuda_tile.ptr<|tile<|!cuda_tile.tile<|tensor_view<|!cuda_tile.tensor_view<|partition_view<tile=(|!cuda_tile.partition_view<tile=(|gather_scatter_view<tile=(|!cuda_tile.gather_scatter_view<tile=(|strided_view<tile=(|!cuda_tile.strided_view<tile=(|"
+heads =
+    bytes "i1|i4|i8|i16|i32|i64|f16|bf16|f32|tf32|f64|" ++
+    bytes "f8E4M3FN|f8e4m3fn|f8E5M2|f8e5m2|f8E8M0FNU|f8e8m0fnu|f4E2M1FN|f4e2m1fn|f8E5M3FNU|f8e5m3fnu|bool|" ++
+    bytes "token|!cuda_tile.token|ptr<|!cuda_tile.ptr<|tile<|!cuda_tile.tile<|tensor_view<|!cuda_tile.tensor_view<|" ++
+    bytes "partition_view<tile=(|!cuda_tile.partition_view<tile=(|" ++
+    bytes "gather_scatter_view<tile=(|!cuda_tile.gather_scatter_view<tile=(|" ++
+    bytes "strided_view<tile=(|!cuda_tile.strided_view<tile=(|"
 
 -- a type of any rank, with a scalar and a padding by their numbers
 pub record Entire : Type 0 where

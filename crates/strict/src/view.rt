@@ -84,13 +84,17 @@ fn read_mid(s: &[u8], from: Step, tile: bool) -> Picked
         return read_word(
             s,
             from,
-            b"),padding_value=|), padding_value=|),tensor_view<|), tensor_view<|),!cuda_tile.tensor_view<|), !cuda_tile.tensor_view<|),tensor_view=!cuda_tile.tensor_view<|), tensor_view=!cuda_tile.tensor_view<|",
+            b"),padding_value=|), padding_value=|),tensor_view<|), tensor_view<|\
+              ),!cuda_tile.tensor_view<|), !cuda_tile.tensor_view<|\
+              ),tensor_view=!cuda_tile.tensor_view<|), tensor_view=!cuda_tile.tensor_view<|",
         );
     }
     read_word(
         s,
         from,
-        b"],padding_value=|], padding_value=|],tensor_view<|], tensor_view<|],!cuda_tile.tensor_view<|], !cuda_tile.tensor_view<|],tensor_view=!cuda_tile.tensor_view<|], tensor_view=!cuda_tile.tensor_view<|",
+        b"],padding_value=|], padding_value=|],tensor_view<|], tensor_view<|\
+          ],!cuda_tile.tensor_view<|], !cuda_tile.tensor_view<|\
+          ],tensor_view=!cuda_tile.tensor_view<|], tensor_view=!cuda_tile.tensor_view<|",
     )
 }
 

@@ -215,7 +215,12 @@ pub(crate) fn read_whole(s: &[u8]) -> Whole
     let k = read_word(
         s,
         Step::Past(0),
-        b"i1|i4|i8|i16|i32|i64|f16|bf16|f32|tf32|f64|f8E4M3FN|f8e4m3fn|f8E5M2|f8e5m2|f8E8M0FNU|f8e8m0fnu|f4E2M1FN|f4e2m1fn|f8E5M3FNU|f8e5m3fnu|bool|token|!cuda_tile.token|ptr<|!cuda_tile.ptr<|tile<|!cuda_tile.tile<|tensor_view<|!cuda_tile.tensor_view<|partition_view<tile=(|!cuda_tile.partition_view<tile=(|gather_scatter_view<tile=(|!cuda_tile.gather_scatter_view<tile=(|strided_view<tile=(|!cuda_tile.strided_view<tile=(|",
+        b"i1|i4|i8|i16|i32|i64|f16|bf16|f32|tf32|f64|\
+          f8E4M3FN|f8e4m3fn|f8E5M2|f8e5m2|f8E8M0FNU|f8e8m0fnu|f4E2M1FN|f4e2m1fn|f8E5M3FNU|f8e5m3fnu|bool|\
+          token|!cuda_tile.token|ptr<|!cuda_tile.ptr<|tile<|!cuda_tile.tile<|tensor_view<|!cuda_tile.tensor_view<|\
+          partition_view<tile=(|!cuda_tile.partition_view<tile=(|\
+          gather_scatter_view<tile=(|!cuda_tile.gather_scatter_view<tile=(|\
+          strided_view<tile=(|!cuda_tile.strided_view<tile=(|",
     );
     let e = k.end;
     on_head(s, e, k.word)
