@@ -12,3 +12,4 @@ pub mod Hole
 pub mod Agrees
 pub mod Accord
 pub mod Table
+pub mod Demands
