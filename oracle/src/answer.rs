@@ -150,7 +150,7 @@ impl fmt::Display for Record {
     }
 }
 
-fn kind_name(kind: Kind) -> &'static str {
+pub fn kind_name(kind: Kind) -> &'static str {
     match kind {
         Kind::Scalar => "scalar",
         Kind::Pointer => "pointer",
@@ -163,7 +163,7 @@ fn kind_name(kind: Kind) -> &'static str {
     }
 }
 
-fn padding_name(padding: Option<Padding>) -> &'static str {
+pub fn padding_name(padding: Option<Padding>) -> &'static str {
     match padding {
         None => "none",
         Some(Padding::Zero) => "zero",
@@ -174,13 +174,13 @@ fn padding_name(padding: Option<Padding>) -> &'static str {
     }
 }
 
-fn dim_text(value: &i64) -> String {
+pub fn dim_text(value: &i64) -> String {
     match *value {
         DYNAMIC => "?".to_string(),
         other => other.to_string(),
     }
 }
 
-fn listed<T>(values: &[T], text: fn(&T) -> String) -> String {
+pub fn listed<T>(values: &[T], text: fn(&T) -> String) -> String {
     values.iter().map(text).collect::<Vec<_>>().join(",")
 }

@@ -53,7 +53,7 @@ impl Texts {
         }
     }
 
-    fn all(&self) -> impl Iterator<Item = &Vec<u8>> {
+    pub fn all(&self) -> impl Iterator<Item = &Vec<u8>> {
         let generated = self.generated.iter().flatten();
         self.document.iter().chain(&self.nasty).chain(generated)
     }

@@ -10,6 +10,7 @@ mod damage;
 mod dice;
 mod escape;
 mod exhaust;
+mod flat;
 mod forms;
 mod generate;
 #[cfg(has_source)]
@@ -17,19 +18,26 @@ mod ir;
 mod list;
 #[rustfmt::skip]
 mod nasty;
+mod nearly;
 mod original;
 mod ours;
 #[rustfmt::skip]
 mod pieces;
 mod plain;
+mod records;
 #[cfg(has_source)]
 mod requirements;
 #[rustfmt::skip]
 mod rows;
+mod round;
 mod scalar;
 mod shown;
+mod spell;
+mod strict;
+mod strictly;
 mod table;
 mod time;
+mod write;
 
 use std::env;
 use std::fs;
@@ -38,7 +46,8 @@ use std::path::{Path, PathBuf};
 use std::process::ExitCode;
 
 const HELP: &str = "\
-oracle: the original Type::parse, run beside a plain second reading of the same texts
+oracle: the original Type::parse, run beside a plain second reading of the same texts; our readers
+and our writer beside plain ones
 
   oracle answer [--plain|--original]   answers for the texts of standard input, one per line
                                        (escapes \\\\ and \\xHH); by default both are read, and a
@@ -46,6 +55,11 @@ oracle: the original Type::parse, run beside a plain second reading of the same 
   oracle agree COUNT [SEED]            both readings on COUNT generated texts and all short ones
   oracle compare COUNT [SEED|--quick]  our reader beside both, counts included, on COUNT generated
                                        texts, all short ones and all short contents of each form
+  oracle strict COUNT [SEED]           our strict reader beside a plain recogniser, on COUNT strict,
+                                       nearly strict and damaged texts and on the list; each strict
+                                       text beside the ordinary readings
+  oracle round COUNT [SEED]            our writer beside a plain one on COUNT records in rooms of
+                                       several sizes; what is written is read back by every reader
   oracle time                          our reader's time beside Type::parse's, as a ratio
   oracle list [DIR]                    writes the fixed list anew: DIR/list1.txt, DIR/list2.txt, ...
   oracle check-list [DIR]              checks every row of the list, and that it would be written so
@@ -56,7 +70,8 @@ oracle: the original Type::parse, run beside a plain second reading of the same 
 The list's DIR is crates/replay/data unless named. `--original`, `agree`, `list` and `time` need
 the original source, found at build time: CUTILE_IR_SRC names the folder that holds
 src/ir/types.rs. The other commands also hold it beside the plain reading where it is there.
-`compare` and `time` need our library: TYPETEXT_LIB names the folder that holds libcapi.a.
+`compare`, `strict`, `round` and `time` need our library: TYPETEXT_LIB names the folder that
+holds libcapi.a.
 Exit: 0 all is well, 1 something differs or can't be done, 2 the command isn't understood.
 ";
 
@@ -110,6 +125,10 @@ fn run(words: &[&str], out: &mut dyn Write) -> Result<(), Failure> {
         ["compare", count] => compare(out, count, "1", false)?,
         ["compare", count, "--quick"] => compare(out, count, "1", true)?,
         ["compare", count, seed] => compare(out, count, seed, false)?,
+        ["strict", count] => strict(out, count, "1")?,
+        ["strict", count, seed] => strict(out, count, seed)?,
+        ["round", count] => round(out, count, "1")?,
+        ["round", count, seed] => round(out, count, seed)?,
         ["time"] => time(out)?,
         ["list"] => list(out, &list_path())?,
         ["list", folder] => list(out, Path::new(folder))?,
@@ -148,6 +167,18 @@ fn compare(out: &mut dyn Write, count: &str, seed: &str, quick: bool) -> Result<
     let (count, seed) = (number(count)?, number(seed)?);
     ours::needed()?;
     Ok(agree::compare(out, count, seed, quick)?)
+}
+
+fn strict(out: &mut dyn Write, count: &str, seed: &str) -> Result<(), Failure> {
+    let (count, seed) = (number(count)?, number(seed)?);
+    ours::strict_needed()?;
+    Ok(strictly::run(out, count, seed)?)
+}
+
+fn round(out: &mut dyn Write, count: &str, seed: &str) -> Result<(), Failure> {
+    let (count, seed) = (number(count)?, number(seed)?);
+    ours::writer_needed()?;
+    Ok(round::run(out, count, seed)?)
 }
 
 fn time(out: &mut dyn Write) -> Result<(), Failure> {

@@ -1,8 +1,11 @@
-//! Our reader, over the C face of the static library (docs/ABI.md).
+//! Our readers and our writer, over the C face of the static library (docs/ABI.md).
 
 use crate::answer::Answer;
+use crate::flat::Flat;
 
 pub const PRESENT: bool = cfg!(has_library);
+pub const STRICT: bool = cfg!(has_strict);
+pub const WRITER: bool = cfg!(has_write);
 
 /// One clear line for the commands that can't do without the library.
 pub fn needed() -> Result<(), String> {
@@ -13,6 +16,22 @@ pub fn needed() -> Result<(), String> {
         "our library is absent: set TYPETEXT_LIB to the folder that holds libcapi.a and build again"
             .to_string(),
     )
+}
+
+pub fn strict_needed() -> Result<(), String> {
+    needed()?;
+    match STRICT {
+        true => Ok(()),
+        false => Err("our library has no typetext_parse_strict".to_string()),
+    }
+}
+
+pub fn writer_needed() -> Result<(), String> {
+    needed()?;
+    match WRITER {
+        true => Ok(()),
+        false => Err("our library has no typetext_write".to_string()),
+    }
 }
 
 /// None where the library is absent; an error where the reading isn't blank where it must be.
@@ -26,14 +45,30 @@ pub fn reading(_: &[u8]) -> u8 {
     0
 }
 
+/// The same for the strict reader.
+#[cfg(not(has_strict))]
+pub fn read_strict(_: &[u8]) -> Option<Result<Answer, String>> {
+    None
+}
+
+/// The length and the refusal; None where the writer is absent. The room is the part of the
+/// buffer from `start` on that has `room` bytes.
+#[cfg(not(has_write))]
+pub fn write(_: &Flat, _buffer: &mut [u8], _start: usize, _room: usize) -> Option<(usize, u8)> {
+    None
+}
+
+#[cfg(has_strict)]
+pub use with_library::read_strict;
 #[cfg(has_library)]
 pub use with_library::{read, reading};
+#[cfg(has_write)]
+pub use writer::write;
 
 #[cfg(has_library)]
 mod with_library {
-    use super::Answer;
-    use crate::answer::{Counts, Kind, Padding, Record};
-    use crate::scalar;
+    use super::{Answer, Flat};
+    use crate::answer::{Counts, Kind, Record};
     use std::mem::MaybeUninit;
 
     /// The layout of docs/ABI.md.
@@ -63,29 +98,38 @@ mod with_library {
 
     // The reading is returned by value: on x86-64 that is a hidden pointer in front, and the
     // archive made for an Arm host takes the same pointer as its first argument.
+    type Call = unsafe extern "C" fn(out: *mut Reading, text: *const u8, len: usize);
+
     extern "C" {
         fn typetext_parse(out: *mut Reading, text: *const u8, len: usize);
+        #[cfg(has_strict)]
+        fn typetext_parse_strict(out: *mut Reading, text: *const u8, len: usize);
     }
 
-    fn called(text: &[u8]) -> Reading {
+    fn called(call: Call, text: &[u8]) -> Reading {
         let mut out = MaybeUninit::uninit();
         unsafe {
-            typetext_parse(out.as_mut_ptr(), text.as_ptr(), text.len());
+            call(out.as_mut_ptr(), text.as_ptr(), text.len());
             out.assume_init()
         }
     }
 
     /// The refusal's number alone, for measuring.
     pub fn reading(text: &[u8]) -> u8 {
-        called(text).refusal
+        called(typetext_parse, text).refusal
     }
 
     pub fn read(text: &[u8]) -> Option<Result<Answer, String>> {
-        Some(answered(&called(text)))
+        Some(answered(&called(typetext_parse, text)))
+    }
+
+    #[cfg(has_strict)]
+    pub fn read_strict(text: &[u8]) -> Option<Result<Answer, String>> {
+        Some(answered(&called(typetext_parse_strict, text)))
     }
 
     fn answered(reading: &Reading) -> Result<Answer, String> {
-        let record = record(reading)?;
+        let record = flat(reading).record()?;
         let [a, b, c, d] = reading.counts.map(|n| n as u32);
         let counts = Counts { a, b, c, d };
         if reading.refusal == 0 {
@@ -103,71 +147,47 @@ mod with_library {
         })
     }
 
-    fn record(reading: &Reading) -> Result<Record, String> {
-        Ok(Record {
-            kind: *kinds()
-                .get(usize::from(reading.kind))
-                .ok_or("no such kind")?,
-            element: scalar::ALL
-                .get(usize::from(reading.element))
-                .ok_or("no such scalar")?
-                .0,
-            pointer: flag(reading.pointer)?,
-            attribute: flag(reading.attribute)?,
-            shape: listed(&reading.shape, reading.shape_len)?,
-            strides: listed(&reading.strides, reading.strides_len)?,
-            tile: listed(&reading.tile, reading.tile_len)?,
-            map: listed(&reading.map, reading.map_len)?,
-            traversal: listed(&reading.traversal, reading.traversal_len)?,
+    fn flat(reading: &Reading) -> Flat {
+        Flat {
+            shape_len: reading.shape_len,
+            strides_len: reading.strides_len,
+            tile_len: reading.tile_len,
+            map_len: reading.map_len,
+            traversal_len: reading.traversal_len,
+            shape: reading.shape,
+            strides: reading.strides,
+            tile: reading.tile,
+            map: reading.map,
+            traversal: reading.traversal,
             sparse: reading.sparse,
-            padding: *paddings()
-                .get(usize::from(reading.padding))
-                .ok_or("no such padding")?,
-        })
-    }
-
-    fn flag(byte: u8) -> Result<bool, String> {
-        match byte {
-            0 => Ok(false),
-            1 => Ok(true),
-            _ => Err(format!("a flag is {byte}")),
+            kind: reading.kind,
+            element: reading.element,
+            padding: reading.padding,
+            pointer: reading.pointer,
+            attribute: reading.attribute,
         }
     }
+}
 
-    /// The entries of a list; what stands past its length must be zero.
-    fn listed<T: Copy + Default + PartialEq>(all: &[T; 8], len: usize) -> Result<Vec<T>, String> {
-        let (used, past) = all
-            .split_at_checked(len)
-            .ok_or("a list has over eight entries")?;
-        if past.iter().any(|value| *value != T::default()) {
-            return Err("an entry past a list's length isn't zero".to_string());
-        }
-        Ok(used.to_vec())
+/// All that hangs on how the writer's result comes back: it has 16 bytes, and so comes in
+/// registers, not through a pointer in front.
+#[cfg(has_write)]
+mod writer {
+    use super::Flat;
+
+    #[repr(C)]
+    struct Written {
+        len: usize,
+        refusal: u8,
     }
 
-    fn kinds() -> [Kind; 8] {
-        use Kind::*;
-        [
-            Scalar,
-            Pointer,
-            Tile,
-            TensorView,
-            Partition,
-            GatherScatter,
-            Strided,
-            Token,
-        ]
+    extern "C" {
+        fn typetext_write(record: *const Flat, room: *mut u8, len: usize) -> Written;
     }
 
-    fn paddings() -> [Option<Padding>; 6] {
-        use Padding::*;
-        [
-            None,
-            Some(Zero),
-            Some(NegZero),
-            Some(Nan),
-            Some(PosInf),
-            Some(NegInf),
-        ]
+    pub fn write(flat: &Flat, buffer: &mut [u8], start: usize, room: usize) -> Option<(usize, u8)> {
+        assert!(start + room <= buffer.len());
+        let written = unsafe { typetext_write(flat, buffer.as_mut_ptr().add(start), room) };
+        Some((written.len, written.refusal))
     }
 }
