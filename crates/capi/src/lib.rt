@@ -1,12 +1,15 @@
-// The C face: numbers and byte slices in and out, nothing decided here (docs/ABI.md).
+// The C face: numbers and byte slices in and out, nothing decided here (docs/ABI.md). Here the reader; the writer in `write`.
+mod write;
+
 use lexis::Scalar;
 use meaning::CAP;
 use meaning::Kind;
 use meaning::Padding;
 use meaning::Reading;
+pub use write::typetext_write;
 ghost use mathlib.Core.Path.{_≡_};
 ghost use Rattle.meaning.specs.Ordinary.{ordinary};
-ghost use Rattle.capi.specs.Abi.{kind-number, scalar-number, padding-number, in-numbers};
+ghost use Rattle.capi.specs.Abi.{kind-number, scalar-number, padding-number, in-numbers, Strict-numbers};
 
 // A reading in numbers.
 #[repr(C)]
@@ -132,4 +135,12 @@ pub extern "C" fn typetext_parse(text: &[u8]) -> TypetextReading
     ensures { λ r. ⌜ r ≡ in-numbers (ordinary 8 1024 (now (text .entry))) ⌝ }
 {
     in_numbers(ordinary::parse(text))
+}
+
+// The strict reader: the type of a strict form, or a refusal. Any bytes get an answer.
+#[no_mangle]
+pub extern "C" fn typetext_parse_strict(text: &[u8]) -> TypetextReading
+    ensures { λ r. ⌜ Strict-numbers (now (text .entry)) r ⌝ }
+{
+    in_numbers(strict::parse_strict(text))
 }

@@ -1,11 +1,17 @@
 // Reads the recorded list (data/list1.txt and on), runs the ordinary reader on each of its texts, and compares what it answers with the recorded answer.
+// Each type that was read is then written, and its text read again.
+mod back;
 mod render;
 mod row;
 
-// How many rows were read, and how many of them differ.
+// How many rows were read, and how many of them differ; how many types have a text and how many have none, and how many
+// were not returned by reading it.
 struct Totals {
     rows: u64,
     differ: u64,
+    written: u64,
+    no_text: u64,
+    lost: u64,
 }
 
 fn line(name: &[u8], n: u64) {
@@ -23,10 +29,14 @@ fn replayed(t: Totals, row: &[u8]) -> Totals {
     if row[0] == b'#' {
         return t;
     }
-    let same = row::holds(row);
+    let tried = row::try_row(row);
+    let back = tried.back;
     Totals {
         rows: more(t.rows, true),
-        differ: more(t.differ, !same),
+        differ: more(t.differ, !tried.same),
+        written: more(t.written, back.written),
+        no_text: more(t.no_text, back.no_text),
+        lost: more(t.lost, back.lost),
     }
 }
 
@@ -61,7 +71,13 @@ fn part(name: &[u8], before: Totals) -> Totals {
 }
 
 fn main() {
-    let mut t = Totals { rows: 0, differ: 0 };
+    let mut t = Totals {
+        rows: 0,
+        differ: 0,
+        written: 0,
+        no_text: 0,
+        lost: 0,
+    };
     t = part(b"list1.txt", t);
     t = part(b"list2.txt", t);
     t = part(b"list3.txt", t);
@@ -73,4 +89,7 @@ fn main() {
     t = part(b"list9.txt", t);
     line(b"rows", t.rows);
     line(b"different", t.differ);
+    line(b"written", t.written);
+    line(b"without text", t.no_text);
+    line(b"not returned", t.lost);
 }

@@ -1,4 +1,6 @@
 // One row of the list: a text with escapes, a tab, the recorded answer.
+use super::back::Back;
+use super::back::write_back;
 use super::render::put_byte;
 use super::render::render;
 ghost use Prim.Native.Nat.{_≤_};
@@ -77,25 +79,36 @@ fn behind(row: &[u8], k: usize) -> &[u8] {
     }
 }
 
-fn show(row: &[u8], answer: &[u8]) {
-    io::write_all(1, b"differs: ");
+fn show(what: &[u8], row: &[u8], answer: &[u8]) {
+    io::write_all(1, what);
     io::write_all(1, row);
     io::write_all(1, b"\n   ours: ");
     io::write_all(1, answer);
     io::write_all(1, b"\n");
 }
 
-// Whether the reader answers as the row says; says so if not.
-pub fn holds(row: &[u8]) -> bool {
+// Whether the reader answers as the row says, and what became of the type.
+pub struct Tried {
+    pub same: bool,
+    pub back: Back,
+}
+
+// Says so where something is wrong.
+pub fn try_row(row: &[u8]) -> Tried {
     let mut text = [0u8; 2048];
     let mut out = [0u8; 2048];
     let k = lexis::until(row, 9);
     let len = unescape(prefix(row, k), &mut text);
-    let n = render(ordinary::parse(prefix(&text, len)), &mut out);
+    let r = ordinary::parse(prefix(&text, len));
+    let n = render(r, &mut out);
     let answer = prefix(&out, n);
     let same = lexis::same(answer, behind(row, k));
     if !same {
-        show(row, answer);
+        show(b"differs: ", row, answer);
     }
-    same
+    let back = write_back(r);
+    if back.lost {
+        show(b"not returned: ", row, answer);
+    }
+    Tried { same, back }
 }

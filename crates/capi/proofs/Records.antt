@@ -1,0 +1,96 @@
+-- Records from their numbers: whether there is one, which, and what the writer then answers.
+use Prim.Native.Nat.{ℕ, zero, suc}
+use mathlib.Core.Bool.{Bool, true, false, _&&_, true≢false, false≢true}
+use mathlib.Core.Option.{Option, none, some}
+use mathlib.Core.Path.{_≡_, refl, sym, ap, _∙_}
+use lib.Dec.{eqb, ltb}
+use Rattle.lexis.specs.Text.{Text}
+use Rattle.lexis.specs.declared.scalar.Scalar.{Scalar}
+use Rattle.meaning.specs.declared.Kind.{Kind}
+use Rattle.meaning.specs.declared.Padding.{Padding}
+use Rattle.meaning.specs.declared.Record.{Record}
+use Rattle.meaning.specs.declared.Refusal.the-variants.{NotNormal}
+use Rattle.meaning.specs.declared.Written.{Written}
+use Rattle.meaning.specs.Written as W
+use Rattle.meaning.specs.Written.{_>>=_, writing}
+use Rattle.capi.specs.declared.write.TypetextRecord.{TypetextRecord}
+use Rattle.capi.specs.declared.write.TypetextWritten.{TypetextWritten}
+use Rattle.capi.specs.Abi.{kinds, scalars, paddings, flags, kind-of, scalar-of, padding-of, flag-of, of-numbers, Outcome, outcome, answer-numbers, outcome-numbers, write-given, write-numbers, given, Value}
+use Rattle.capi.proofs.Numbers.{within}
+
+-- five answers together
+abbrev pub Five : Type 0
+Five = Kind → Scalar → Padding → Bool → Bool → Record
+
+abbrev pub five : Five → Option Kind → Option Scalar → Option Padding → Option Bool → Option Bool → Option Record
+five F k e p f m = k >>= λ k. e >>= λ e. p >>= λ p. f >>= λ f. m >>= λ m. some (F k e p f m)
+
+five-given : (F : Five) (k : Option Kind) (e : Option Scalar) (p : Option Padding) (f m : Option Bool) → given k && given e && given p && given f && given m ≡ given (five F k e p f m)
+five-given F none e p f m = refl
+five-given F (some k) none p f m = refl
+five-given F (some k) (some e) none f m = refl
+five-given F (some k) (some e) (some p) none m = refl
+five-given F (some k) (some e) (some p) (some f) none = refl
+five-given F (some k) (some e) (some p) (some f) (some m) = refl
+
+five-value : (F : Five) (k : Option Kind) (e : Option Scalar) (p : Option Padding) (f m : Option Bool) (k′ : Kind) (e′ : Scalar) (p′ : Padding) (f′ m′ : Bool) → Value k k′ → Value e e′ → Value p p′ → Value f f′ → Value m m′ → Value (five F k e p f m) (F k′ e′ p′ f′ m′)
+five-value F none e p f m k′ e′ p′ f′ m′ a b c d g = tt
+five-value F (some k) none p f m k′ e′ p′ f′ m′ a b c d g = tt
+five-value F (some k) (some e) none f m k′ e′ p′ f′ m′ a b c d g = tt
+five-value F (some k) (some e) (some p) none m k′ e′ p′ f′ m′ a b c d g = tt
+five-value F (some k) (some e) (some p) (some f) none k′ e′ p′ f′ m′ a b c d g = tt
+five-value F (some k) (some e) (some p) (some f) (some m) k′ e′ p′ f′ m′ a b c d g = λ i. F (a i) (b i) (c i) (d i) (g i)
+
+-- the record of five cases and what else is sent
+abbrev pub built : TypetextRecord → Five
+built n k e p f m = record {
+  kind = k;
+  element = e;
+  pointer = f;
+  attribute = m;
+  shape = n .shape;
+  «shape_len» = n .«shape_len»;
+  strides = n .strides;
+  «strides_len» = n .«strides_len»;
+  tile = n .tile;
+  «tile_len» = n .«tile_len»;
+  map = n .map;
+  «map_len» = n .«map_len»;
+  traversal = n .traversal;
+  «traversal_len» = n .«traversal_len»;
+  sparse = n .sparse;
+  padding = p;
+}
+
+pub known-is : (n : TypetextRecord) → ltb (n .kind) 8 && ltb (n .element) 16 && ltb (n .padding) 6 && ltb (n .pointer) 2 && ltb (n .attribute) 2 ≡ given (of-numbers n)
+unfolding of-numbers
+known-is n =
+    sym (λ i. within kinds (n .kind) i && within scalars (n .element) i && within paddings (n .padding) i && within flags (n .pointer) i && within flags (n .attribute) i)
+    ∙ five-given (built n) (kind-of (n .kind)) (scalar-of (n .element)) (padding-of (n .padding)) (flag-of (n .pointer)) (flag-of (n .attribute))
+
+pub flag-value : (n : ℕ) → Value (flag-of n) (eqb n 1)
+flag-value zero = refl
+flag-value (suc zero) = refl
+flag-value (suc (suc n)) = tt
+
+pub record-value : (n : TypetextRecord) (k : Kind) (e : Scalar) (p : Padding) (f m : Bool) → Value (kind-of (n .kind)) k → Value (scalar-of (n .element)) e → Value (padding-of (n .padding)) p → Value (flag-of (n .pointer)) f → Value (flag-of (n .attribute)) m → Value (of-numbers n) (built n k e p f m)
+unfolding of-numbers
+record-value n = five-value (built n) (kind-of (n .kind)) (scalar-of (n .element)) (padding-of (n .padding)) (flag-of (n .pointer)) (flag-of (n .attribute))
+
+refused-as : (o : Option Record) (room : Text) → given o ≡ false → write-given o room ≡ W.refused NotNormal room
+refused-as none room h = refl
+refused-as (some r) room h = absurd (true≢false h)
+
+written-as : (o : Option Record) (r : Record) (room : Text) → given o ≡ true → Value o r → writing 8 r room ≡ write-given o room
+written-as none r room h v = absurd (false≢true h)
+written-as (some a) r room h v = ap (λ (r : Record). writing 8 r room) v
+
+-- ── the writer's answer ──
+
+pub unknown-refused : (n : TypetextRecord) (room : Text) → given (of-numbers n) ≡ false → outcome (record { len = 0; refusal = 6 }) room ≡ write-numbers n room
+unfolding write-numbers
+unknown-refused n room h = sym (ap outcome-numbers (refused-as (of-numbers n) room h))
+
+pub known-written : (n : TypetextRecord) (r : Record) (w : Written) (room left : Text) → given (of-numbers n) ≡ true → Value (of-numbers n) r → W.outcome w left ≡ writing 8 r room → outcome (answer-numbers w) left ≡ write-numbers n room
+unfolding write-numbers
+known-written n r w room left h v e = ap outcome-numbers (e ∙ written-as (of-numbers n) r room h v)
