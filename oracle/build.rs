@@ -6,12 +6,6 @@ use std::{env, fs};
 /// Where the source lies when `CUTILE_IR_SRC` isn't set, seen from the repository root.
 const DEFAULT_SOURCE: &str = "../shared/docs/src";
 
-/// The calls that the library may have beyond `typetext_parse`, and what their presence sets.
-const CALLS: [(&str, &str); 2] = [
-    ("typetext_parse_strict", "has_strict"),
-    ("typetext_write", "has_write"),
-];
-
 fn main() {
     println!("cargo::rustc-check-cfg=cfg(has_source)");
     println!("cargo::rerun-if-changed=build.rs");
@@ -33,9 +27,6 @@ fn main() {
 /// Links our own readers and writer where `TYPETEXT_LIB` names the folder that holds `libcapi.a`.
 fn link_library() {
     println!("cargo::rustc-check-cfg=cfg(has_library)");
-    for (_, set) in CALLS {
-        println!("cargo::rustc-check-cfg=cfg({set})");
-    }
     println!("cargo::rerun-if-env-changed=TYPETEXT_LIB");
     let Some(folder) = env::var_os("TYPETEXT_LIB") else {
         return;
@@ -47,19 +38,7 @@ fn link_library() {
         println!("cargo::rustc-cfg=has_library");
         println!("cargo::rustc-link-search=native={}", folder.display());
         println!("cargo::rustc-link-lib=static=capi");
-        let bytes = fs::read(&found).expect("the archive can be read");
-        for (call, set) in CALLS {
-            if holds(&bytes, call) {
-                println!("cargo::rustc-cfg={set}");
-            }
-        }
     }
-}
-
-/// Whether the name stands in the archive with a zero after it, as symbols do.
-fn holds(archive: &[u8], name: &str) -> bool {
-    let symbol = format!("{name}\0").into_bytes();
-    archive.windows(symbol.len()).any(|part| part == symbol)
 }
 
 fn root() -> PathBuf {

@@ -171,13 +171,13 @@ fn compare(out: &mut dyn Write, count: &str, seed: &str, quick: bool) -> Result<
 
 fn strict(out: &mut dyn Write, count: &str, seed: &str) -> Result<(), Failure> {
     let (count, seed) = (number(count)?, number(seed)?);
-    ours::strict_needed()?;
+    ours::needed()?;
     Ok(strictly::run(out, count, seed)?)
 }
 
 fn round(out: &mut dyn Write, count: &str, seed: &str) -> Result<(), Failure> {
     let (count, seed) = (number(count)?, number(seed)?);
-    ours::writer_needed()?;
+    ours::needed()?;
     Ok(round::run(out, count, seed)?)
 }
 

@@ -4,8 +4,6 @@ use crate::answer::Answer;
 use crate::flat::Flat;
 
 pub const PRESENT: bool = cfg!(has_library);
-pub const STRICT: bool = cfg!(has_strict);
-pub const WRITER: bool = cfg!(has_write);
 
 /// One clear line for the commands that can't do without the library.
 pub fn needed() -> Result<(), String> {
@@ -16,22 +14,6 @@ pub fn needed() -> Result<(), String> {
         "our library is absent: set TYPETEXT_LIB to the folder that holds libcapi.a and build again"
             .to_string(),
     )
-}
-
-pub fn strict_needed() -> Result<(), String> {
-    needed()?;
-    match STRICT {
-        true => Ok(()),
-        false => Err("our library has no typetext_parse_strict".to_string()),
-    }
-}
-
-pub fn writer_needed() -> Result<(), String> {
-    needed()?;
-    match WRITER {
-        true => Ok(()),
-        false => Err("our library has no typetext_write".to_string()),
-    }
 }
 
 /// None where the library is absent; an error where the reading isn't blank where it must be.
@@ -46,23 +28,21 @@ pub fn reading(_: &[u8]) -> u8 {
 }
 
 /// The same for the strict reader.
-#[cfg(not(has_strict))]
+#[cfg(not(has_library))]
 pub fn read_strict(_: &[u8]) -> Option<Result<Answer, String>> {
     None
 }
 
-/// The length and the refusal; None where the writer is absent. The room is the part of the
+/// The length and the refusal; None where the library is absent. The room is the part of the
 /// buffer from `start` on that has `room` bytes.
-#[cfg(not(has_write))]
+#[cfg(not(has_library))]
 pub fn write(_: &Flat, _buffer: &mut [u8], _start: usize, _room: usize) -> Option<(usize, u8)> {
     None
 }
 
-#[cfg(has_strict)]
-pub use with_library::read_strict;
 #[cfg(has_library)]
-pub use with_library::{read, reading};
-#[cfg(has_write)]
+pub use with_library::{read, read_strict, reading};
+#[cfg(has_library)]
 pub use writer::write;
 
 #[cfg(has_library)]
@@ -102,7 +82,6 @@ mod with_library {
 
     extern "C" {
         fn typetext_parse(out: *mut Reading, text: *const u8, len: usize);
-        #[cfg(has_strict)]
         fn typetext_parse_strict(out: *mut Reading, text: *const u8, len: usize);
     }
 
@@ -123,7 +102,6 @@ mod with_library {
         Some(answered(&called(typetext_parse, text)))
     }
 
-    #[cfg(has_strict)]
     pub fn read_strict(text: &[u8]) -> Option<Result<Answer, String>> {
         Some(answered(&called(typetext_parse_strict, text)))
     }
@@ -171,7 +149,7 @@ mod with_library {
 
 /// All that hangs on how the writer's result comes back: it has 16 bytes, and so comes in
 /// registers, not through a pointer in front.
-#[cfg(has_write)]
+#[cfg(has_library)]
 mod writer {
     use super::Flat;
 

@@ -22,9 +22,6 @@ fn untouched(place: usize) -> u8 {
 
 /// What our writer did in a room of this size; an error where it touched more than it may.
 fn ours_done(flat: &Flat, room: usize) -> Option<Result<Done, String>> {
-    if !ours::WRITER {
-        return None;
-    }
     let mut buffer: Vec<u8> = (0..room + 2 * MARGIN).map(untouched).collect();
     let (len, refusal) = ours::write(flat, &mut buffer, MARGIN, room)?;
     Some(judged(&buffer, room, len, refusal))
@@ -163,11 +160,6 @@ fn shown(out: &mut dyn Write, table: &Table) -> io::Result<()> {
         }
     }
     line(out, "all", &sum)?;
-    let strict = if ours::STRICT {
-        "our strict reader, "
-    } else {
-        ""
-    };
     let original = if original::PRESENT {
         " and Type::parse"
     } else {
@@ -175,7 +167,7 @@ fn shown(out: &mut dyn Write, table: &Table) -> io::Result<()> {
     };
     writeln!(
         out,
-        "no difference between our writer and the plain one; read back by {strict}the recogniser, our ordinary reader, the plain one{original}"
+        "no difference between our writer and the plain one; read back by our strict reader, the recogniser, our ordinary reader, the plain one{original}"
     )
 }
 
