@@ -55,25 +55,10 @@ mod with_library {
     #[repr(C)]
     #[derive(Clone, Copy)]
     pub struct Reading {
+        value: Flat,
         place: usize,
-        shape_len: usize,
-        strides_len: usize,
-        tile_len: usize,
-        map_len: usize,
-        traversal_len: usize,
         counts: [usize; 4],
-        shape: [i64; 8],
-        strides: [i64; 8],
-        tile: [i32; 8],
-        map: [i32; 8],
-        traversal: [i32; 8],
-        sparse: i32,
         refusal: u8,
-        kind: u8,
-        element: u8,
-        padding: u8,
-        pointer: u8,
-        attribute: u8,
     }
 
     // The reading is returned by value: on x86-64 that is a hidden pointer in front, and the
@@ -107,7 +92,7 @@ mod with_library {
     }
 
     fn answered(reading: &Reading) -> Result<Answer, String> {
-        let record = flat(reading).record()?;
+        let record = reading.value.record()?;
         let [a, b, c, d] = reading.counts.map(|n| n as u32);
         let counts = Counts { a, b, c, d };
         if reading.refusal == 0 {
@@ -123,27 +108,6 @@ mod with_library {
             number: reading.refusal,
             place: reading.place,
         })
-    }
-
-    fn flat(reading: &Reading) -> Flat {
-        Flat {
-            shape_len: reading.shape_len,
-            strides_len: reading.strides_len,
-            tile_len: reading.tile_len,
-            map_len: reading.map_len,
-            traversal_len: reading.traversal_len,
-            shape: reading.shape,
-            strides: reading.strides,
-            tile: reading.tile,
-            map: reading.map,
-            traversal: reading.traversal,
-            sparse: reading.sparse,
-            kind: reading.kind,
-            element: reading.element,
-            padding: reading.padding,
-            pointer: reading.pointer,
-            attribute: reading.attribute,
-        }
     }
 }
 

@@ -14,7 +14,6 @@ use Rattle.meaning.specs.declared.Padding.{Padding}
 use Rattle.meaning.specs.declared.Padding.the-variants.{Absent, Zero, NegZero, Nan, PosInf, NegInf}
 use Rattle.meaning.specs.declared.Reading.{Reading}
 use Rattle.meaning.specs.declared.Record.{Record}
-use Rattle.capi.specs.declared.TypetextReading.{TypetextReading}
 use Rattle.capi.specs.declared.write.TypetextRecord.{TypetextRecord}
 use Rattle.capi.specs.Abi.{kind-number, scalar-number, padding-number, flag-number, nth, kinds, scalars, paddings, flags, kind-of, scalar-of, padding-of, flag-of, in-numbers, record-numbers, of-numbers}
 use Rattle.capi.proofs.Records.{five, built}
@@ -63,29 +62,9 @@ pub record-back : (r : Record) → of-numbers (record-numbers r) ≡ some r
 unfolding of-numbers record-numbers
 record-back r = rw (kind-back (r .kind), scalar-back (r .element), padding-back (r .padding), flag-back (r .pointer), flag-back (r .attribute))
 
--- a reading's fields copied one by one, a bool as 0 or 1, are its record's numbers
-abbrev copied : TypetextReading → TypetextRecord
-copied n = record {
-  «shape_len» = n .«shape_len»;
-  «strides_len» = n .«strides_len»;
-  «tile_len» = n .«tile_len»;
-  «map_len» = n .«map_len»;
-  «traversal_len» = n .«traversal_len»;
-  shape = n .shape;
-  strides = n .strides;
-  tile = n .tile;
-  map = n .map;
-  traversal = n .traversal;
-  sparse = n .sparse;
-  kind = n .kind;
-  element = n .element;
-  padding = n .padding;
-  pointer = flag-number (n .pointer);
-  attribute = flag-number (n .attribute);
-}
-
-pub reading-back : (r : Reading) → of-numbers (copied (in-numbers r)) ≡ some (r .value)
-unfolding record-numbers in-numbers
+-- what a reader answered
+pub reading-back : (r : Reading) → of-numbers (in-numbers r .value) ≡ some (r .value)
+unfolding in-numbers
 reading-back r = record-back (r .value)
 
 -- ── and back: each case's number is its place ──

@@ -62,38 +62,6 @@ padding-number Nan = 3
 padding-number PosInf = 4
 padding-number NegInf = 5
 
-unfoldable pub in-numbers : Reading → TypetextReading
-in-numbers r = record {
-  place = r .place;
-  «shape_len» = r .value .«shape_len»;
-  «strides_len» = r .value .«strides_len»;
-  «tile_len» = r .value .«tile_len»;
-  «map_len» = r .value .«map_len»;
-  «traversal_len» = r .value .«traversal_len»;
-  a = r .note .a;
-  b = r .note .b;
-  c = r .note .c;
-  d = r .note .d;
-  shape = r .value .shape;
-  strides = r .value .strides;
-  tile = r .value .tile;
-  map = r .value .map;
-  traversal = r .value .traversal;
-  sparse = r .value .sparse;
-  refusal = number (r .refusal);
-  kind = kind-number (r .value .kind);
-  element = scalar-number (r .value .element);
-  padding = padding-number (r .value .padding);
-  pointer = r .value .pointer;
-  attribute = r .value .attribute;
-}
-
--- the strict reader's answer in numbers
-pub record Strict-numbers (s : Text) (n : TypetextReading) : Type 0 where
-  pub reading : Reading
-  pub strictly : Strictly 8 1024 s reading
-  pub numbers : n ≡ in-numbers reading
-
 abbrev pub flag-number : Bool → ℕ
 flag-number false = 0
 flag-number true = 1
@@ -117,6 +85,23 @@ record-numbers r = record {
   pointer = flag-number (r .pointer);
   attribute = flag-number (r .attribute);
 }
+
+unfoldable pub in-numbers : Reading → TypetextReading
+in-numbers r = record {
+  value = record-numbers (r .value);
+  place = r .place;
+  a = r .note .a;
+  b = r .note .b;
+  c = r .note .c;
+  d = r .note .d;
+  refusal = number (r .refusal);
+}
+
+-- the strict reader's answer in numbers
+pub record Strict-numbers (s : Text) (n : TypetextReading) : Type 0 where
+  pub reading : Reading
+  pub strictly : Strictly 8 1024 s reading
+  pub numbers : n ≡ in-numbers reading
 
 -- ── from numbers: what a caller sends may be no case's number ──
 

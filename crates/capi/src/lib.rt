@@ -2,40 +2,27 @@
 mod write;
 
 use lexis::Scalar;
-use meaning::CAP;
 use meaning::Kind;
 use meaning::Padding;
 use meaning::Reading;
+use meaning::Record;
+pub use write::TypetextRecord;
+pub use write::TypetextWritten;
 pub use write::typetext_write;
 ghost use mathlib.Core.Path.{_≡_};
 ghost use Rattle.meaning.specs.Ordinary.{ordinary};
-ghost use Rattle.capi.specs.Abi.{kind-number, scalar-number, padding-number, in-numbers, Strict-numbers};
+ghost use Rattle.capi.specs.Abi.{kind-number, scalar-number, padding-number, flag-number, record-numbers, in-numbers, Strict-numbers};
 
-// A reading in numbers.
+// A reading in numbers; its value can be handed to the writer as it is.
 #[repr(C)]
 pub struct TypetextReading {
+    pub value: TypetextRecord,
     pub place: usize,
-    pub shape_len: usize,
-    pub strides_len: usize,
-    pub tile_len: usize,
-    pub map_len: usize,
-    pub traversal_len: usize,
     pub a: usize,
     pub b: usize,
     pub c: usize,
     pub d: usize,
-    pub shape: [i64; CAP],
-    pub strides: [i64; CAP],
-    pub tile: [i32; CAP],
-    pub map: [i32; CAP],
-    pub traversal: [i32; CAP],
-    pub sparse: i32,
     pub refusal: u8,
-    pub kind: u8,
-    pub element: u8,
-    pub padding: u8,
-    pub pointer: bool,
-    pub attribute: bool,
 }
 
 fn kind_number(k: Kind) -> u8
@@ -89,12 +76,15 @@ fn padding_number(p: Padding) -> u8
     }
 }
 
-fn in_numbers(r: Reading) -> TypetextReading
-    ensures { λ n. ⌜ n ≡ in-numbers r ⌝ }
+fn flag_number(b: bool) -> u8
+    ensures { λ r. ⌜ r ≡ flag-number b ⌝ }
 {
-    let v = r.value;
-    let note = r.note;
-    let refusal = r.refusal;
+    if b { 1 } else { 0 }
+}
+
+fn record_numbers(v: Record) -> TypetextRecord
+    ensures { λ n. ⌜ n ≡ record-numbers v ⌝ }
+{
     let kind = v.kind;
     let element = v.element;
     let padding = v.padding;
@@ -103,29 +93,40 @@ fn in_numbers(r: Reading) -> TypetextReading
     let tile = v.tile;
     let map = v.map;
     let traversal = v.traversal;
-    TypetextReading {
-        place: r.place,
+    TypetextRecord {
         shape_len: v.shape_len,
         strides_len: v.strides_len,
         tile_len: v.tile_len,
         map_len: v.map_len,
         traversal_len: v.traversal_len,
-        a: note.a,
-        b: note.b,
-        c: note.c,
-        d: note.d,
         shape,
         strides,
         tile,
         map,
         traversal,
         sparse: v.sparse,
-        refusal: refusal.number(),
         kind: kind_number(kind),
         element: scalar_number(element),
         padding: padding_number(padding),
-        pointer: v.pointer,
-        attribute: v.attribute,
+        pointer: flag_number(v.pointer),
+        attribute: flag_number(v.attribute),
+    }
+}
+
+fn in_numbers(r: Reading) -> TypetextReading
+    ensures { λ n. ⌜ n ≡ in-numbers r ⌝ }
+{
+    let v = r.value;
+    let note = r.note;
+    let refusal = r.refusal;
+    TypetextReading {
+        value: record_numbers(v),
+        place: r.place,
+        a: note.a,
+        b: note.b,
+        c: note.c,
+        d: note.d,
+        refusal: refusal.number(),
     }
 }
 
