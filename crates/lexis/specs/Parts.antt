@@ -1,6 +1,7 @@
 -- What private helpers answer, for their own contracts: no public contract cites these.
 use Prim.Native.Nat.{ℕ, suc, _+_}
 use Prim.Native.Char.{code}
+use mathlib.Core.Bool.{Bool, false, _||_}
 use mathlib.Core.List.{List, [], _∷_}
 use mathlib.Core.Option.{Option, none, some}
 use lib.Dec.{leb, eqb}
@@ -36,3 +37,8 @@ sized most (b ∷ s) =
 abbrev pub which : Text → List Text → ℕ
 which s [] = 0
 which s (e ∷ es) = if same e s then 0 else suc (which s es)
+
+-- some byte passes the test
+abbrev pub some-of : (ℕ → Bool) → Text → Bool
+some-of p [] = false
+some-of p (b ∷ s) = p b || some-of p s

@@ -1,8 +1,11 @@
 // Numerals, trimming, scalar names and byte search: what the readers stand on. Nothing here knows a type.
+mod blocks;
 mod numeral;
 mod scalar;
 mod text;
 
+pub use blocks::seek;
+pub use blocks::seek_high;
 pub use numeral::Number32;
 pub use numeral::Number64;
 pub use numeral::parse_i32;

@@ -1,4 +1,5 @@
 // Seeking and trimming.
+use super::blocks::seek;
 ghost use mathlib.Core.Path.{_≡_};
 ghost use lib.Dec.{eqb};
 ghost use lib.ListN.{drop, length};
@@ -55,14 +56,12 @@ pub fn find(text: &[u8], what: &[u8]) -> Found
         return Found::At(0);
     }
     let first = what[0];
-    let mut i = 0;
+    let mut i = seek(text, 0, first);
     while i < text.len() {
-        if text[i] == first {
-            if stands(text, what, i) {
-                return Found::At(i);
-            }
+        if stands(text, what, i) {
+            return Found::At(i);
         }
-        i += 1;
+        i = seek(text, i + 1, first);
     }
     Found::Nowhere
 }
@@ -81,14 +80,7 @@ pub fn contains(text: &[u8], what: &[u8]) -> bool
 pub fn until(text: &[u8], b: u8) -> usize
     ensures { λ r. ⌜ r ≡ length (until (eqb b) (now (text .entry))) ⌝ }
 {
-    let mut i = 0;
-    while i < text.len() {
-        if text[i] == b {
-            return i;
-        }
-        i += 1;
-    }
-    i
+    seek(text, 0, b)
 }
 
 // Whether trimming drops the byte: 9 to 13 and 32, so VT (11) too.

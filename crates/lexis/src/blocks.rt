@@ -1,0 +1,78 @@
+// Seeking by blocks: sixteen bytes are looked at with no early end, which a machine does in one step.
+ghost use mathlib.Core.Path.{_≡_};
+ghost use Prim.Native.Nat.{_+_, _≤_};
+ghost use lib.Dec.{eqb, leb};
+ghost use lib.ListN.{drop, length, take};
+ghost use Rattle.lexis.specs.Text.{until};
+ghost use Rattle.lexis.specs.Parts.{some-of};
+
+// Whether one of the sixteen bytes from `at` on is `b`.
+fn among(text: &[u8], at: usize, b: u8) -> bool
+    requires { ⌜ at + 16 ≤ length (now text) ⌝ }
+    ensures { λ r. ⌜ r ≡ some-of (eqb b) (take 16 (drop at (now (text .entry)))) ⌝ }
+{
+    let mut hit = false;
+    let mut j = 0;
+    while j < 16 {
+        hit = hit | (b == text[at + j]);
+        j += 1;
+    }
+    hit
+}
+
+// Whether one of the sixteen bytes from `at` on is 128 or more.
+fn among_high(text: &[u8], at: usize) -> bool
+    requires { ⌜ at + 16 ≤ length (now text) ⌝ }
+    ensures { λ r. ⌜ r ≡ some-of (leb 128) (take 16 (drop at (now (text .entry)))) ⌝ }
+{
+    let mut hit = false;
+    let mut j = 0;
+    while j < 16 {
+        hit = hit | (128 <= text[at + j]);
+        j += 1;
+    }
+    hit
+}
+
+// The place of the first `b` from `from` on: the text's length, where there is none; `from`, where the text ends before it.
+pub fn seek(text: &[u8], from: usize, b: u8) -> usize
+    ensures { λ r. ⌜ r ≡ from + length (until (eqb b) (drop from (now (text .entry)))) ⌝ }
+{
+    let mut i = from;
+    while i < text.len() {
+        if text.len() - i < 16 {
+            break;
+        }
+        if among(text, i, b) {
+            break;
+        }
+        i += 16;
+    }
+    while i < text.len() {
+        if b == text[i] {
+            break;
+        }
+        i += 1;
+    }
+    i
+}
+
+// The place of the first byte of 128 or more: the text's length, where there is none.
+pub fn seek_high(text: &[u8]) -> usize
+    ensures { λ r. ⌜ r ≡ length (until (leb 128) (now (text .entry))) ⌝ }
+{
+    let mut i = 0;
+    while 16 <= text.len() - i {
+        if among_high(text, i) {
+            break;
+        }
+        i += 16;
+    }
+    while i < text.len() {
+        if 128 <= text[i] {
+            break;
+        }
+        i += 1;
+    }
+    i
+}
