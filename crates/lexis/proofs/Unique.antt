@@ -15,6 +15,8 @@ use Rattle.lexis.specs.declared.numeral.Number32.{Number32}
 use Rattle.lexis.specs.declared.numeral.Number32.the-variants as N32
 use Rattle.lexis.specs.declared.scalar.Named.{Named}
 use Rattle.lexis.specs.declared.scalar.Named.the-variants.{Is, Unknown}
+use Rattle.lexis.proofs.blocks.seek.Reads as seek
+use Rattle.lexis.proofs.blocks.seek_high.Reads as seek-high
 use Rattle.lexis.proofs.text.same.Reads as same
 use Rattle.lexis.proofs.text.begins.Reads as begins
 use Rattle.lexis.proofs.text.find.Reads as find
@@ -56,6 +58,12 @@ contains-one κs a x y s t p q = p ∙ sym q
 pub until-one : One until.Post
 until-one κs a x y s t p q = p ∙ sym q
 
+pub seek-one : One seek.Post
+seek-one κs a x y s t p q = p ∙ sym q
+
+pub seek-high-one : One seek-high.Post
+seek-high-one κs a x y s t p q = p ∙ sym q
+
 pub white-one : One white.Post
 white-one κs a x y s t p q = p ∙ sym q
 
@@ -84,7 +92,7 @@ trim-end-matches-one κs a x y s t p q = p ∙ sym q
 
 -- ── answers read through a function of their cases ──
 
-spot-one : (f g : Found) → spot f ≡ spot g → f ≡ g
+pub spot-one : (f g : Found) → spot f ≡ spot g → f ≡ g
 spot-one (At n) (At m) e = let k : n ≡ m = cc in ap At k
 spot-one (At n) Nowhere e = let z : _≡_ {A = ℕ} 0 1 = cc in let f : ⊥ = omega arith in absurd f
 spot-one Nowhere (At m) e = let z : _≡_ {A = ℕ} 0 1 = cc in let f : ⊥ = omega arith in absurd f

@@ -1,4 +1,5 @@
 pub mod Blanks
+pub mod High
 pub mod Normality
 pub mod Unique
 pub mod Open

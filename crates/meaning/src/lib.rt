@@ -1,9 +1,12 @@
 // Types as records and what the calls answer, as plain data by value (01, "Records and numbers").
 mod normal;
+mod refused;
 
 use lexis::Scalar;
 pub use normal::blank;
 pub use normal::is_normal;
+pub use refused::first_high;
+pub use refused::refuse;
 ghost use mathlib.Core.Path.{_≡_};
 ghost use Rattle.meaning.specs.Refusals.{number};
 

@@ -1,12 +1,10 @@
--- Laws of the answer: the first byte of 128 or more, the judgement of what was found, and the refusals in their order.
-use Prim.Native.Nat.{ℕ, suc, _+_, _≤_, _<_}
-use native.Mathlib.Numerals.{add-one}
+-- Laws of the answer: the judgement of what was found, and the refusals in their order.
+use Prim.Native.Nat.{ℕ, suc, _≤_, _<_}
 use mathlib.Core.Option.{Option, none, some}
 use mathlib.Core.Path.{_≡_, refl, sym, ap, _∙_}
 use borrow.Author.Tests.{le-leb, lt-leb}
-use lib.ListN.{length, drop, getD, drop-of-length-le}
+use lib.ListN.{length}
 use Rattle.lexis.specs.Text.{Text}
-use Rattle.lexis.proofs.Lists.{view}
 use Rattle.meaning.specs.Found.{Found, flat, within}
 use Rattle.meaning.specs.Parts.{each}
 use Rattle.meaning.specs.Ordinary as O
@@ -14,18 +12,6 @@ use Rattle.meaning.specs.Ordinary.{passes, high-from, refused, accepted, read-a
 use Rattle.meaning.specs.declared.Reading.{Reading}
 use Rattle.meaning.specs.declared.Refusal.the-variants.{TooLong, HighByte}
 use Rattle.ordinary.specs.Shown.{Shown, shown, lengths-within, judged}
-
--- ── the first high byte: i bytes are passed over ──
-
-module _ (s : Text) (i : ℕ) where
-  pub high-hit : i < length s → 128 ≤ getD s i 0 → high-from i (drop i s) ≡ some i
-  high-hit h k = rw (view s i h, le-leb 128 (getD s i 0) k)
-
-  pub high-step : i < length s → getD s i 0 < 128 → high-from i (drop i s) ≡ high-from (i + 1) (drop (i + 1) s)
-  high-step h k = rw (view s i h, lt-leb 128 (getD s i 0) k, add-one i)
-
-  pub high-none : length s ≤ i → high-from i (drop i s) ≡ none
-  high-none h = rw (drop-of-length-le s h)
 
 -- ── the judgement ──
 

@@ -16,19 +16,19 @@ use lexis::Named;
 use lexis::Scalar;
 use meaning::CAP;
 use meaning::Kind;
-use meaning::Note;
 use meaning::Reading;
 use meaning::Record;
 use meaning::Refusal;
+use meaning::first_high;
+use meaning::refuse;
 ghost use Prim.Native.Nat.{suc, _≤_};
 ghost use mathlib.Core.Path.{_≡_};
 ghost use mathlib.Core.Option.{Option, some};
 ghost use lib.ListN.{length};
-ghost use Rattle.lexis.specs.Text.{spot};
 ghost use Rattle.lexis.specs.Names.{scalar-name};
 ghost use Rattle.meaning.specs.Found.{plain};
 ghost use Rattle.meaning.specs.Parts.{each};
-ghost use Rattle.meaning.specs.Ordinary.{pointer, forms, by-forms, unmarked, passes, high-from, refused, ordinary};
+ghost use Rattle.meaning.specs.Ordinary.{pointer, forms, by-forms, unmarked, passes, ordinary};
 ghost use Rattle.meaning.specs.declared.Kind.the-variants as K;
 ghost use Rattle.ordinary.specs.Shown.{said, shown, Told, attributed, lengths-within, judged};
 ghost use Rattle.ordinary.specs.Forms.{shorthand};
@@ -189,37 +189,6 @@ fn parse_marked(text: &[u8]) -> Parsed
         with_pointer_attribute(parse_marked(rest))
     } else {
         parse_unmarked(rest)
-    }
-}
-
-// The place of the first byte of 128 or more.
-fn first_high(text: &[u8]) -> Found
-    ensures { λ r. ⌜ spot r ≡ high-from 0 (now (text .entry)) ⌝ }
-{
-    let mut i = 0;
-    while i < text.len() {
-        if 128 <= text[i] {
-            return Found::At(i);
-        }
-        i += 1;
-    }
-    Found::Nowhere
-}
-
-fn refuse(refusal: Refusal, place: usize) -> Reading
-    ensures { λ r. ⌜ r ≡ refused 8 refusal place ⌝ }
-{
-    let value = meaning::blank();
-    Reading {
-        refusal,
-        place,
-        value,
-        note: Note {
-            a: 0,
-            b: 0,
-            c: 0,
-            d: 0,
-        },
     }
 }
 

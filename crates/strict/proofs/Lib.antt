@@ -9,7 +9,6 @@ pub mod Chain
 pub mod Insides
 pub mod Viewing
 pub mod Wholes
-pub mod Answering
 pub mod Together
 pub mod Endings
 pub mod Bridge

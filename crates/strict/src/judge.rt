@@ -1,5 +1,4 @@
 // What was read, laid out as a record and judged: refusal 5, then refusal 4.
-use super::answer::refuse;
 use super::number::Step;
 use super::whole::Whole;
 use lexis::Scalar;
@@ -9,6 +8,7 @@ use meaning::Padding;
 use meaning::Reading;
 use meaning::Record;
 use meaning::Refusal;
+use meaning::refuse;
 ghost use mathlib.Core.Path.{_≡_};
 ghost use Rattle.grammar.specs.Join.{mapped};
 ghost use Rattle.strict.specs.Cursor.{valued};

@@ -30,8 +30,7 @@ again c =
     let l = c .before .before .before .before .loop in
     let a = c .before .before .before .before .before .before .before .before .before .before .args in
     let n = c .before .before .before .before .before .before .before .if1 .left in
-    let e = c .seek2 .ensures in
-    (
+    let e = c .seek2 .ensures in (
       P.sought-within (eqb (getD (a .what .now) 0 0)) (a .text .now) (l .i + 1) _ (search needs) e,
       l .inv .1 ∙ L.miss (a .what .now) (a .text .now) (l .i) (search needs) (sym (c .before .before .stands .ensures) ∙ c .before .if2 .left)
           ∙ P.sought (a .what .now) n (a .text .now) (l .i + 1) _ e,
