@@ -1,0 +1,172 @@
+//! The C face (docs/ABI.md), and all that is unsafe.
+
+#[cfg(not(any(target_arch = "x86_64", target_arch = "aarch64")))]
+compile_error!("the library is there for x86-64 and, to measure with, for 64-bit Arm");
+
+/// The most entries of a list.
+pub const CAPACITY: usize = 8;
+
+#[repr(C)]
+#[derive(Clone, Copy, Default, PartialEq, Eq, Hash)]
+pub struct Record {
+    pub shape_len: usize,
+    pub strides_len: usize,
+    pub tile_len: usize,
+    pub map_len: usize,
+    pub traversal_len: usize,
+    pub shape: [i64; CAPACITY],
+    pub strides: [i64; CAPACITY],
+    pub tile: [i32; CAPACITY],
+    pub map: [i32; CAPACITY],
+    pub traversal: [i32; CAPACITY],
+    pub sparse: i32,
+    pub kind: u8,
+    pub element: u8,
+    pub padding: u8,
+    pub pointer: u8,
+    pub attribute: u8,
+}
+
+#[repr(C)]
+pub struct Reading {
+    pub value: Record,
+    pub place: usize,
+    pub a: usize,
+    pub b: usize,
+    pub c: usize,
+    pub d: usize,
+    pub refusal: u8,
+}
+
+#[repr(C)]
+pub struct Written {
+    pub len: usize,
+    pub refusal: u8,
+}
+
+const _: () = assert!(size_of::<Record>() == 280 && align_of::<Record>() == 8);
+const _: () = assert!(size_of::<Reading>() == 328 && align_of::<Reading>() == 8);
+const _: () = assert!(size_of::<Written>() == 16 && align_of::<Written>() == 8);
+
+extern "C" {
+    fn typetext_write(record: *const Record, room: *mut u8, room_len: usize) -> Written;
+}
+
+pub use reader::{parse, parse_strict};
+
+/// A reading comes back by value, as C says.
+#[cfg(target_arch = "x86_64")]
+mod reader {
+    use super::Reading;
+
+    extern "C" {
+        fn typetext_parse(text: *const u8, len: usize) -> Reading;
+        fn typetext_parse_strict(text: *const u8, len: usize) -> Reading;
+    }
+
+    pub fn parse(text: &[u8]) -> Reading {
+        // SAFETY: pointer and length are of one slice, which the call only reads.
+        unsafe { typetext_parse(text.as_ptr(), text.len()) }
+    }
+
+    pub fn parse_strict(text: &[u8]) -> Reading {
+        // SAFETY: as above.
+        unsafe { typetext_parse_strict(text.as_ptr(), text.len()) }
+    }
+}
+
+/// The library's code is made for x86-64, where a large result is a pointer in front of the arguments. Compiled once more
+/// for Arm it still takes that pointer as its first argument, which is not how C returns a struct there.
+#[cfg(target_arch = "aarch64")]
+mod reader {
+    use super::Reading;
+    use core::mem::MaybeUninit;
+
+    type Call = unsafe extern "C" fn(*mut Reading, *const u8, usize);
+
+    extern "C" {
+        fn typetext_parse(answer: *mut Reading, text: *const u8, len: usize);
+        fn typetext_parse_strict(answer: *mut Reading, text: *const u8, len: usize);
+    }
+
+    fn answer(call: Call, text: &[u8]) -> Reading {
+        let mut answer = MaybeUninit::uninit();
+        // SAFETY: pointer and length are of one slice, which the call only reads; it sets every field of its answer.
+        unsafe {
+            call(answer.as_mut_ptr(), text.as_ptr(), text.len());
+            answer.assume_init()
+        }
+    }
+
+    pub fn parse(text: &[u8]) -> Reading {
+        answer(typetext_parse, text)
+    }
+
+    pub fn parse_strict(text: &[u8]) -> Reading {
+        answer(typetext_parse_strict, text)
+    }
+}
+
+pub fn write(record: &Record, room: &mut [u8]) -> Written {
+    // SAFETY: the record is whole, pointer and length are of one slice, and a `&mut` overlaps nothing.
+    unsafe { typetext_write(record, room.as_mut_ptr(), room.len()) }
+}
+
+#[cfg(test)]
+mod tests {
+    use super::*;
+
+    fn tile() -> Record {
+        parse_strict(b"tile<2x?xf32>").value
+    }
+
+    /// Refusal 8, which no caller of this crate can meet; a refused room is as it was.
+    #[test]
+    fn a_short_room() {
+        for len in 0..24 {
+            let mut room = [0xAA; 24];
+            let written = write(&tile(), &mut room[..len]);
+            assert_eq!((written.len, written.refusal), (0, 8));
+            assert_eq!(room, [0xAA; 24]);
+        }
+    }
+
+    #[test]
+    fn a_longer_room_is_kept_behind_the_text() {
+        let mut room = [0xAA; 30];
+        let written = write(&tile(), &mut room);
+        assert_eq!((written.len, written.refusal), (24, 0));
+        assert_eq!(&room[..24], b"!cuda_tile.tile<2x?xf32>");
+        assert_eq!(room[24..], [0xAA; 6]);
+    }
+
+    #[test]
+    fn a_wrong_number() {
+        let wrong = [
+            Record { kind: 8, ..tile() },
+            Record {
+                element: 16,
+                ..tile()
+            },
+            Record {
+                padding: 6,
+                ..tile()
+            },
+            Record {
+                pointer: 2,
+                ..tile()
+            },
+            Record {
+                attribute: 2,
+                ..tile()
+            },
+            Record {
+                shape_len: usize::MAX,
+                ..tile()
+            },
+        ];
+        for record in wrong {
+            assert_eq!(write(&record, &mut [0; 773]).refusal, 6);
+        }
+    }
+}

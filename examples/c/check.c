@@ -1,0 +1,340 @@
+/* Holds header and library to docs/ABI.md: layout, every refusal, rooms, wrong numbers. Prints what differs; the last line
+ * says how many checks held, and the exit status is 1 if one didn't. */
+#include "typetext.h"
+
+#include <stdio.h>
+#include <string.h>
+
+static int held = 0;
+static int failed = 0;
+
+static void check_at(int line, int holds, const char *what)
+{
+    if (holds) {
+        held++;
+        return;
+    }
+    failed++;
+    printf("check.c:%d: %s\n", line, what);
+}
+
+#define CHECK(holds) check_at(__LINE__, (holds), #holds)
+
+static const uint8_t *bytes(const char *text) { return (const uint8_t *)text; }
+
+static typetext_reading parse(const char *text) { return typetext_parse(bytes(text), strlen(text)); }
+
+static typetext_reading strict(const char *text) { return typetext_parse_strict(bytes(text), strlen(text)); }
+
+#define OFFSET(type, field, at) CHECK(offsetof(type, field) == (at))
+
+static void layout(void)
+{
+    OFFSET(typetext_record, shape_len, 0);
+    OFFSET(typetext_record, strides_len, 8);
+    OFFSET(typetext_record, tile_len, 16);
+    OFFSET(typetext_record, map_len, 24);
+    OFFSET(typetext_record, traversal_len, 32);
+    OFFSET(typetext_record, shape, 40);
+    OFFSET(typetext_record, strides, 104);
+    OFFSET(typetext_record, tile, 168);
+    OFFSET(typetext_record, map, 200);
+    OFFSET(typetext_record, traversal, 232);
+    OFFSET(typetext_record, sparse, 264);
+    OFFSET(typetext_record, kind, 268);
+    OFFSET(typetext_record, element, 269);
+    OFFSET(typetext_record, padding, 270);
+    OFFSET(typetext_record, pointer, 271);
+    OFFSET(typetext_record, attribute, 272);
+    CHECK(sizeof(typetext_record) == 280);
+    OFFSET(typetext_reading, value, 0);
+    OFFSET(typetext_reading, place, 280);
+    OFFSET(typetext_reading, a, 288);
+    OFFSET(typetext_reading, b, 296);
+    OFFSET(typetext_reading, c, 304);
+    OFFSET(typetext_reading, d, 312);
+    OFFSET(typetext_reading, refusal, 320);
+    CHECK(sizeof(typetext_reading) == 328);
+    OFFSET(typetext_written, len, 0);
+    OFFSET(typetext_written, refusal, 8);
+    CHECK(sizeof(typetext_written) == 16);
+}
+
+/* In C99 there is no alignof: what a byte in front pushes a struct to is its alignment. */
+struct byte_record { char c; typetext_record x; };
+struct byte_reading { char c; typetext_reading x; };
+struct byte_written { char c; typetext_written x; };
+
+static void alignment(void)
+{
+    OFFSET(struct byte_record, x, 8);
+    OFFSET(struct byte_reading, x, 8);
+    OFFSET(struct byte_written, x, 8);
+}
+
+static void constants(void)
+{
+    CHECK(sizeof(size_t) == 8);
+    CHECK(TYPETEXT_DYNAMIC < -INT64_MAX);
+    CHECK(TYPETEXT_CAPACITY == 8 && TYPETEXT_LONGEST_TEXT == 1024 && TYPETEXT_LONGEST_WRITTEN == 773);
+}
+
+static void kinds(void)
+{
+    CHECK(strict("f32").value.kind == TYPETEXT_SCALAR);
+    CHECK(strict("ptr<f32>").value.kind == TYPETEXT_POINTER);
+    CHECK(strict("tile<4xf32>").value.kind == TYPETEXT_TILE);
+    CHECK(strict("tensor_view<f32>").value.kind == TYPETEXT_TENSOR_VIEW);
+    CHECK(strict("partition_view<tile=(4),tensor_view<f32>,dim_map=[0]>").value.kind == TYPETEXT_PARTITION);
+    CHECK(strict("gather_scatter_view<tile=(4),tensor_view<f32>,sparse_dim=0>").value.kind == TYPETEXT_GATHER_SCATTER);
+    CHECK(strict("strided_view<tile=(4),traversal_strides=[1],tensor_view<f32>,dim_map=[0]>").value.kind ==
+          TYPETEXT_STRIDED);
+    CHECK(strict("token").value.kind == TYPETEXT_TOKEN && strict("token").refusal == TYPETEXT_ACCEPTED);
+}
+
+static void scalars(void)
+{
+    static const char *const names[] = {"i1",  "i4",   "i8",  "i16",      "i32",    "i64",       "f16",      "bf16",
+                                        "f32", "tf32", "f64", "f8E4M3FN", "f8E5M2", "f8E8M0FNU", "f4E2M1FN", "f8E5M3FNU"};
+    static const int numbers[] = {TYPETEXT_I1,       TYPETEXT_I4,     TYPETEXT_I8,        TYPETEXT_I16,
+                                  TYPETEXT_I32,      TYPETEXT_I64,    TYPETEXT_F16,       TYPETEXT_BF16,
+                                  TYPETEXT_F32,      TYPETEXT_TF32,   TYPETEXT_F64,       TYPETEXT_F8E4M3FN,
+                                  TYPETEXT_F8E5M2,   TYPETEXT_F8E8M0FNU, TYPETEXT_F4E2M1FN, TYPETEXT_F8E5M3FNU};
+    int i;
+    for (i = 0; i < 16; i++) {
+        CHECK(numbers[i] == i);
+        CHECK(strict(names[i]).value.element == numbers[i]);
+        CHECK(strict(names[i]).refusal == TYPETEXT_ACCEPTED);
+    }
+    CHECK(strict("bool").refusal == TYPETEXT_ACCEPTED);
+}
+
+static void paddings(void)
+{
+    static const char *const names[] = {"zero", "neg_zero", "nan", "pos_inf", "neg_inf"};
+    static const int numbers[] = {TYPETEXT_PADDING_ZERO, TYPETEXT_PADDING_NEG_ZERO, TYPETEXT_PADDING_NAN,
+                                  TYPETEXT_PADDING_POS_INF, TYPETEXT_PADDING_NEG_INF};
+    char text[128];
+    int i;
+    CHECK(TYPETEXT_PADDING_NONE == 0);
+    for (i = 0; i < 5; i++) {
+        sprintf(text, "partition_view<tile=(4),padding_value=%s,tensor_view<f32>,dim_map=[0]>", names[i]);
+        CHECK(strict(text).refusal == TYPETEXT_ACCEPTED && strict(text).value.padding == numbers[i]);
+    }
+}
+
+/* Every field of a reading that uses nearly all of them. */
+static void fields(void)
+{
+    typetext_reading r = parse("strided_view<tile=(2x3), traversal_strides=[-1,5], padding_value=nan, "
+                               "tensor_view<?x-7xbf16, strides=[9, ?], #cuda_tile.ptr_attr<none>>, dim_map=[1,0]>");
+    const typetext_record *v = &r.value;
+    CHECK(r.refusal == TYPETEXT_ACCEPTED && r.place == 0);
+    CHECK(r.a == 0 && r.b == 0 && r.c == 0 && r.d == 0);
+    CHECK(v->shape_len == 2 && v->shape[0] == TYPETEXT_DYNAMIC && v->shape[1] == -7 && v->shape[2] == 0);
+    CHECK(v->strides_len == 2 && v->strides[0] == 9 && v->strides[1] == TYPETEXT_DYNAMIC && v->strides[7] == 0);
+    CHECK(v->tile_len == 2 && v->tile[0] == 2 && v->tile[1] == 3 && v->tile[2] == 0);
+    CHECK(v->map_len == 2 && v->map[0] == 1 && v->map[1] == 0);
+    CHECK(v->traversal_len == 2 && v->traversal[0] == -1 && v->traversal[1] == 5);
+    CHECK(v->element == TYPETEXT_BF16 && v->padding == TYPETEXT_PADDING_NAN);
+    CHECK(v->attribute == 1 && v->pointer == 0 && v->sparse == 0);
+    CHECK(strict("tile<4xptr<f32>>").value.pointer == 1);
+    CHECK(strict("gather_scatter_view<tile=(4),tensor_view<f32>,sparse_dim=-3>").value.sparse == -3);
+}
+
+static void counts(void)
+{
+    typetext_reading r = parse("strided_view<tile=(x2), traversal_strides=[q,r,s], tensor_view<axbxcxdxf32, "
+                               "strides=[1]>>");
+    CHECK(r.refusal == TYPETEXT_ACCEPTED);
+    CHECK(r.a == 4 && r.b == 1 && r.c == 3 && r.d == 1);
+    CHECK(r.value.tile[0] == 1 && r.value.traversal[2] == 0 && r.value.map_len == 2 && r.value.map[1] == 1);
+}
+
+/* A refused reading is a token with nothing else set. */
+static int is_blank(const typetext_reading *r)
+{
+    typetext_record none;
+    memset(&none, 0, sizeof none);
+    none.kind = TYPETEXT_TOKEN;
+    return memcmp(&r->value, &none, offsetof(typetext_record, attribute) + 1) == 0 && r->a == 0 && r->b == 0 &&
+           r->c == 0 && r->d == 0;
+}
+
+static void refused(int line, typetext_reading r, int number, size_t place)
+{
+    check_at(line, r.refusal == number, "the refusal's number");
+    check_at(line, r.place == place, "the refusal's place");
+    check_at(line, is_blank(&r), "a refused reading is blank");
+}
+
+#define REFUSED(reading, number, place) refused(__LINE__, (reading), (number), (place))
+
+static void refusals_of_length(void)
+{
+    static uint8_t text[TYPETEXT_LONGEST_TEXT + 1];
+    memset(text, ' ', sizeof text);
+    memcpy(text, "f32", 3);
+    CHECK(typetext_parse(text, TYPETEXT_LONGEST_TEXT).refusal == TYPETEXT_ACCEPTED);
+    REFUSED(typetext_parse(text, sizeof text), TYPETEXT_TOO_LONG, 0);
+    REFUSED(typetext_parse_strict(text, sizeof text), TYPETEXT_TOO_LONG, 0);
+    REFUSED(typetext_parse_strict(text, TYPETEXT_LONGEST_TEXT), TYPETEXT_NOT_STRICT, 0);
+}
+
+static void refusals_of_readers(void)
+{
+    REFUSED(parse("tile<\x80>"), TYPETEXT_NOT_ASCII, 5);
+    REFUSED(strict("f32\xff"), TYPETEXT_NOT_ASCII, 3);
+    REFUSED(parse("f31"), TYPETEXT_NO_TYPE, 0);
+    REFUSED(parse("tile<1x1x1x1x1x1x1x1x1xf32>"), TYPETEXT_LIST_TOO_LONG, 0);
+    REFUSED(strict("tile<1x1x1x1x1x1x1x1x1xf32>"), TYPETEXT_LIST_TOO_LONG, 0);
+    CHECK(strict("tile<1x1x1x1x1x1x1x1xf32>").refusal == TYPETEXT_ACCEPTED);
+    REFUSED(strict("tile<f32>junk"), TYPETEXT_NOT_STRICT, 0);
+    CHECK(parse("tile<f32>junk").refusal == TYPETEXT_ACCEPTED);
+}
+
+/* With length 0 no byte is read, whatever the pointer. */
+static void no_text(void)
+{
+    REFUSED(typetext_parse(NULL, 0), TYPETEXT_NO_TYPE, 0);
+    REFUSED(typetext_parse_strict(NULL, 0), TYPETEXT_NOT_STRICT, 0);
+}
+
+static typetext_record tile(void)
+{
+    typetext_record r;
+    memset(&r, 0, sizeof r);
+    r.kind = TYPETEXT_TILE;
+    r.element = TYPETEXT_F32;
+    r.shape_len = 2;
+    r.shape[0] = 2;
+    r.shape[1] = TYPETEXT_DYNAMIC;
+    return r;
+}
+
+static int all_are(const uint8_t *from, size_t len, uint8_t byte)
+{
+    size_t i;
+    for (i = 0; i < len; i++)
+        if (from[i] != byte)
+            return 0;
+    return 1;
+}
+
+static void rooms(void)
+{
+    typetext_record r = tile();
+    uint8_t room[32];
+    size_t lent;
+    for (lent = 0; lent <= 30; lent++) {
+        typetext_written w;
+        memset(room, 0xAA, sizeof room);
+        w = typetext_write(&r, room, lent);
+        CHECK(w.len == (lent < 24 ? 0 : 24));
+        CHECK(w.refusal == (lent < 24 ? TYPETEXT_ROOM_TOO_SHORT : TYPETEXT_ACCEPTED));
+        CHECK(lent < 24 || memcmp(room, "!cuda_tile.tile<2x?xf32>", 24) == 0);
+        CHECK(all_are(room + w.len, sizeof room - w.len, 0xAA));
+    }
+    CHECK(typetext_write(&r, NULL, 0).refusal == TYPETEXT_ROOM_TOO_SHORT);
+}
+
+/* A refused record leaves the room as it was, whatever its size. */
+static void unwritten(int line, const typetext_record *r, int number)
+{
+    uint8_t room[TYPETEXT_LONGEST_WRITTEN];
+    typetext_written w;
+    memset(room, 0x55, sizeof room);
+    w = typetext_write(r, room, sizeof room);
+    check_at(line, w.refusal == number, "the writer's refusal");
+    check_at(line, w.len == 0, "a refused writer's length");
+    check_at(line, all_are(room, sizeof room, 0x55), "a refused writer touches no byte");
+    check_at(line, typetext_write(r, room, 0).refusal == number, "the refusal comes before 8");
+}
+
+/* The tile above with one field set, which makes the writer refuse it. */
+#define UNWRITTEN(field, value, number)                                                                                \
+    do {                                                                                                               \
+        typetext_record changed = tile();                                                                              \
+        changed.field = (value);                                                                                       \
+        unwritten(__LINE__, &changed, (number));                                                                       \
+    } while (0)
+
+static void wrong_numbers(void)
+{
+    UNWRITTEN(kind, 8, TYPETEXT_NOT_NORMAL);
+    UNWRITTEN(kind, 255, TYPETEXT_NOT_NORMAL);
+    UNWRITTEN(element, 16, TYPETEXT_NOT_NORMAL);
+    UNWRITTEN(padding, 6, TYPETEXT_NOT_NORMAL);
+    UNWRITTEN(pointer, 2, TYPETEXT_NOT_NORMAL);
+    UNWRITTEN(attribute, 2, TYPETEXT_NOT_NORMAL);
+    UNWRITTEN(shape_len, 9, TYPETEXT_NOT_NORMAL);
+    UNWRITTEN(shape_len, SIZE_MAX, TYPETEXT_NOT_NORMAL);
+    UNWRITTEN(traversal_len, SIZE_MAX, TYPETEXT_NOT_NORMAL);
+}
+
+static void not_normal(void)
+{
+    UNWRITTEN(shape_len, 1, TYPETEXT_NOT_NORMAL); /* an entry past the length */
+    UNWRITTEN(strides_len, 1, TYPETEXT_NOT_NORMAL);
+    UNWRITTEN(tile[7], 1, TYPETEXT_NOT_NORMAL);
+    UNWRITTEN(map[0], 1, TYPETEXT_NOT_NORMAL);
+    UNWRITTEN(sparse, 1, TYPETEXT_NOT_NORMAL);
+    UNWRITTEN(padding, TYPETEXT_PADDING_ZERO, TYPETEXT_NOT_NORMAL);
+    UNWRITTEN(kind, TYPETEXT_SCALAR, TYPETEXT_NOT_NORMAL);
+}
+
+static void without_text(void)
+{
+    UNWRITTEN(attribute, 1, TYPETEXT_NO_TEXT);
+    UNWRITTEN(kind, TYPETEXT_TENSOR_VIEW, TYPETEXT_NO_TEXT);
+    UNWRITTEN(kind, TYPETEXT_PARTITION, TYPETEXT_NO_TEXT);
+    UNWRITTEN(kind, TYPETEXT_GATHER_SCATTER, TYPETEXT_NO_TEXT);
+    UNWRITTEN(kind, TYPETEXT_STRIDED, TYPETEXT_NO_TEXT);
+}
+
+/* The longest text fills the room that the header names. */
+static void longest(void)
+{
+    uint8_t room[TYPETEXT_LONGEST_WRITTEN];
+    typetext_written w;
+    typetext_reading back;
+    typetext_record r;
+    int i;
+    memset(&r, 0, sizeof r);
+    r.kind = TYPETEXT_STRIDED;
+    r.element = TYPETEXT_F8E8M0FNU;
+    r.padding = TYPETEXT_PADDING_NEG_ZERO;
+    r.attribute = 1;
+    r.shape_len = r.strides_len = r.tile_len = r.map_len = r.traversal_len = TYPETEXT_CAPACITY;
+    for (i = 0; i < TYPETEXT_CAPACITY; i++) {
+        r.shape[i] = r.strides[i] = INT64_MIN + 1;
+        r.tile[i] = r.map[i] = r.traversal[i] = INT32_MIN;
+    }
+    w = typetext_write(&r, room, sizeof room);
+    CHECK(w.refusal == TYPETEXT_ACCEPTED && w.len == TYPETEXT_LONGEST_WRITTEN);
+    CHECK(typetext_write(&r, room, sizeof room - 1).refusal == TYPETEXT_ROOM_TOO_SHORT);
+    back = typetext_parse_strict(room, w.len);
+    CHECK(memcmp(&r, &back.value, offsetof(typetext_record, attribute) + 1) == 0);
+}
+
+int main(void)
+{
+    layout();
+    alignment();
+    constants();
+    kinds();
+    scalars();
+    paddings();
+    fields();
+    counts();
+    refusals_of_length();
+    refusals_of_readers();
+    no_text();
+    rooms();
+    wrong_numbers();
+    not_normal();
+    without_text();
+    longest();
+    printf("%d checks held, %d failed\n", held, failed);
+    return failed != 0;
+}
