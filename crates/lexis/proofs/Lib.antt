@@ -5,6 +5,7 @@ pub mod Passing
 pub mod Trimming
 pub mod Numbers
 pub mod Sign
+pub mod Signed
 pub mod Splitting
 pub mod Naming
 pub mod Examples

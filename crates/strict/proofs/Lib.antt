@@ -1,5 +1,4 @@
 -- The laws that the proofs of the functions cite.
-pub mod Sign
 pub mod Numbers
 pub mod Picking
 pub mod Rows

@@ -1,6 +1,5 @@
 -- Signed numbers as the machine has them, and their decimals: the sign, the magnitude, and the smallest i64 as `?`.
 use Prim.Native.Nat.{ℕ, suc, _+_, _-_, _^_, _<_, _≤_}
-use native.Mathlib.Numerals.{add-one}
 use native.Mathlib.Omega.{arith}
 use mathlib.Core.Path.{_≡_, refl, sym, ap, _∙_}
 use mathlib.Core.Bool.{Bool, true, false}
@@ -16,30 +15,6 @@ use Rattle.lexis.specs.Text.{if_then_else_}
 use Rattle.meaning.specs.Decimal.{digits, decimal, dim, dynamic, known}
 use Rattle.meaning.specs.Written.{unknown}
 use Rattle.writer.specs.Flat.{entry}
-
-pub wider : {z : ℤ} → SFits w32 z → SFits w64 z
-wider f = record { sfits = omega arith }
-
--- an i32 as an i64
-pub wide : {z : ℤ} → SFits w32 z → toZ w64 (ofZ w64 (toZ w32 (ofZ w32 z))) ≡ z
-wide f = rw (toZ-ofZ w32 _ f, toZ-ofZ w64 _ (wider f))
-
--- -1 - z of a negative z, with no special case for the smallest
-pub flipped : (z : ℤ) → ltZ z (pos 0) ≡ true → negsuc 0 -ℤ z ≡ pos (mag z)
-flipped (pos n) e = let h : n < 0 = ltb-true n 0 e in let f : ⊥ = omega arith in absurd f
-flipped (negsuc n) e = rw (le-ltb (suc n) 1 (omega arith)) (ap pos (omega arith))
-
-pub abs : (z : ℤ) → ltZ z (pos 0) ≡ true → mag z + 1 ≡ natAbs z
-abs (pos n) e = let h : n < 0 = ltb-true n 0 e in let f : ⊥ = omega arith in absurd f
-abs (negsuc n) e = add-one n
-
-pub nonneg : (z : ℤ) → ltZ z (pos 0) ≡ false → T (nonNeg z)
-nonneg (pos n) e = tt
-nonneg (negsuc n) e = let f : _≡_ {A = ℕ} 0 1 = cc in let g : ⊥ = omega arith in absurd g
-
-pub in-u64 : (z : ℤ) → SFits w64 z → natAbs z ≤ 2 ^ 63
-in-u64 (pos n) f = omega arith
-in-u64 (negsuc n) f = omega arith
 
 pub smallest : (z : ℤ) → SFits w64 z → eqb (ofZ w64 z) 9223372036854775808 ≡ unknown z
 smallest (pos n) f = ne-eqb n 9223372036854775808 (λ e. omega arith)
