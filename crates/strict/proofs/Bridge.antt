@@ -4,14 +4,14 @@ use native.Mathlib.Omega.{arith}
 use mathlib.Core.Bool.{Bool, true, false, cond}
 use mathlib.Core.List.{List, [], _∷_, _++_}
 use mathlib.Core.Path.{_≡_, refl, subst, sym, ap, _∙_}
-use lib.Dec.{eqb, ltb}
+use lib.Dec.{T, eqb, ltb}
 use borrow.Author.Tests.{ne-eqb}
 use Rattle.lexis.specs.Text.{bytes}
 use Rattle.lexis.specs.declared.scalar.Scalar.{Scalar}
 use Rattle.grammar.specs.Piece.{Answer, got, stuck}
 use Rattle.grammar.specs.Join.{mapped, after}
-use Rattle.grammar.specs.Table.{pick}
-use Rattle.grammar.specs.Spelt.{listed, two}
+use Rattle.grammar.specs.Table.{pick, sound-table}
+use Rattle.grammar.specs.Spelt.{listed, two, quiet}
 use Rattle.grammar.specs.Elements as G
 use Rattle.grammar.specs.Elements.{ends}
 use Rattle.strict.specs.Words.{choose}
@@ -49,22 +49,19 @@ core-said c = record { pointer = c .pointer; element = scalar (c .word); attribu
 pub name-is : (t : List ℕ) → G.names .read t ≡ mapped scalar (choose I.names t)
 name-is t = choose-label scalar I.names t
 
-pub close-is : (t : List ℕ) → pick t (listed (G.ends (bytes ">")) (λ (m : Bool). m) two) ≡ mapped marked (choose I.close t)
-close-is t = choose-label marked I.close t
+-- a pointer's content, by the table of what closes it: alone, or with the end of the tile around it
+module _ (w table : List ℕ) (h : T (sound-table quiet (bytes ">,") (listed (G.ends w) (λ (m : Bool). m) two)))
+    (close-is : (t : List ℕ) → pick t (listed (G.ends w) (λ (m : Bool). m) two) ≡ mapped marked (choose table t)) where
+  pub pointee-by : (t : List ℕ) → G.pointee w h .read t ≡ mapped core-said (I.pointee table t)
+  pointee-by t = ap (after (λ (s : Scalar) r. mapped (G.closed s) (pick r (listed (G.ends w) (λ (m : Bool). m) two)))) (name-is t)
+      ∙ join scalar (λ (s : Scalar) r. mapped (G.closed s) (pick r (listed (G.ends w) (λ (m : Bool). m) two))) (I.closing table) core-said
+      (λ k r. ap (mapped (G.closed (scalar k))) (close-is r) ∙ twice marked (G.closed (scalar k)) (choose table r) ∙ sym (twice (I.closed k) core-said (choose table r))) (choose I.names t)
 
 pub pointee-is : (t : List ℕ) → G.pointee (bytes ">") tt .read t ≡ mapped core-said (I.pointee I.close t)
-pointee-is t = ap (after (λ (s : Scalar) r. mapped (G.closed s) (pick r (listed (G.ends (bytes ">")) (λ (m : Bool). m) two)))) (name-is t)
-    ∙ join scalar (λ (s : Scalar) r. mapped (G.closed s) (pick r (listed (G.ends (bytes ">")) (λ (m : Bool). m) two))) (I.closing I.close) core-said
-    (λ k r. ap (mapped (G.closed (scalar k))) (close-is r) ∙ twice marked (G.closed (scalar k)) (choose I.close r) ∙ sym (twice (I.closed k) core-said (choose I.close r))) (choose I.names t)
-
--- with the end of the tile around it
-pub close-both-is : (t : List ℕ) → pick t (listed (G.ends (bytes ">>")) (λ (m : Bool). m) two) ≡ mapped marked (choose I.close-both t)
-close-both-is t = choose-label marked I.close-both t
+pointee-is = pointee-by (bytes ">") I.close tt (λ t. choose-label marked I.close t)
 
 pub pointee-both-is : (t : List ℕ) → G.pointee (bytes ">>") tt .read t ≡ mapped core-said (I.pointee I.close-both t)
-pointee-both-is t = ap (after (λ (s : Scalar) r. mapped (G.closed s) (pick r (listed (G.ends (bytes ">>")) (λ (m : Bool). m) two)))) (name-is t)
-    ∙ join scalar (λ (s : Scalar) r. mapped (G.closed s) (pick r (listed (G.ends (bytes ">>")) (λ (m : Bool). m) two))) (I.closing I.close-both) core-said
-    (λ k r. ap (mapped (G.closed (scalar k))) (close-both-is r) ∙ twice marked (G.closed (scalar k)) (choose I.close-both r) ∙ sym (twice (I.closed k) core-said (choose I.close-both r))) (choose I.names t)
+pointee-both-is = pointee-by (bytes ">>") I.close-both tt (λ t. choose-label marked I.close-both t)
 
 -- ── a tile's element ──
 abbrev pub kern-of : Bool → Scalar → G.Kern

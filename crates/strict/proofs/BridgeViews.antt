@@ -31,7 +31,7 @@ use Rattle.strict.specs.Whole.{view-of}
 use Rattle.strict.specs.Plain.{padding, seen, said}
 use Rattle.strict.proofs.Items.{num-is}
 use Rattle.strict.proofs.Picking.{choose-label}
-use Rattle.strict.proofs.Together.{Same, neither, Named, along, convey, label, closing, ended, ended-then}
+use Rattle.strict.proofs.Together.{Same, neither, Named, along, convey, label, closing, close, ended, ended-then}
 use Rattle.strict.proofs.Endings.{small-list, entry-list}
 use Rattle.strict.proofs.Bridge.{marked, Tens~, tensor-is}
 
@@ -78,6 +78,11 @@ staged : (zs : List ℤ) (m : G.Mid) (k : ℕ) (x : List ℕ) → m ≡ mid-said
 staged zs m k x h = subst (λ (m : G.Mid). Same Scene~ (stage (closing zs m) x) (mapped (C.stage (pushes nothing zs)) (C.sight k x))) (sym h)
     (convey (G.scene (closing zs (mid-said k))) (C.stage (pushes nothing zs)) (sight-is k x) (λ a b q. record { list = refl; sight = q }))
 
+-- by the piece that ends the list: after a tile's entries `)`, after those of a traversal `]`
+scene-by : (b : Bool) (q : List ℕ → Answer G.Mid) → ((x : List ℕ) → Same (Named mid-said) (q x) (C.mid b x)) → (t : List ℕ) → Same Scene~ (after stage (after (close q) (list32 b t))) (C.scene b t)
+unfolding C.scene
+scene-by b q h t = ended-then q (C.mid b) h stage (λ l k x. mapped (C.stage l) (C.sight k x)) staged (list32 b t)
+
 tile-mid : (t : List ℕ) → Same (Named mid-said) (G.mid 41 tt .read t) (C.mid true t)
 unfolding C.mid
 tile-mid t = label mid-said (G.mid 41 tt .read t) (choose C.mids t) (choose-label mid-said C.mids t)
@@ -87,14 +92,10 @@ unfolding C.mid
 walk-mid t = label mid-said (G.mid 93 tt .read t) (choose C.walk-mids t) (choose-label mid-said C.walk-mids t)
 
 pub tile-scene-is : (t : List ℕ) → Same Scene~ (N.tile-scene .read t) (C.scene true t)
-unfolding C.scene
-tile-scene-is t = subst (λ (p : Answer (Ended ℤ G.Mid)). Same Scene~ (after stage p) (C.scene true t)) (sym (entry-list (G.mid 41 tt) tt tt refl tt t))
-    (ended-then (G.mid 41 tt .read) (C.mid true) tile-mid stage (λ l k x. mapped (C.stage l) (C.sight k x)) staged (list32 true t))
+tile-scene-is t = subst (λ (p : Answer (Ended ℤ G.Mid)). Same Scene~ (after stage p) (C.scene true t)) (sym (entry-list (G.mid 41 tt) tt tt refl tt t)) (scene-by true (G.mid 41 tt .read) tile-mid t)
 
 pub walk-scene-is : (t : List ℕ) → Same Scene~ (N.walk-scene .read t) (C.scene false t)
-unfolding C.scene
-walk-scene-is t = subst (λ (p : Answer (Ended ℤ G.Mid)). Same Scene~ (after stage p) (C.scene false t)) (sym (small-list (G.mid 93 tt) tt tt refl t))
-    (ended-then (G.mid 93 tt .read) (C.mid false) walk-mid stage (λ l k x. mapped (C.stage l) (C.sight k x)) staged (list32 false t))
+walk-scene-is t = subst (λ (p : Answer (Ended ℤ G.Mid)). Same Scene~ (after stage p) (C.scene false t)) (sym (small-list (G.mid 93 tt) tt tt refl t)) (scene-by false (G.mid 93 tt .read) walk-mid t)
 
 -- ── the ends ──
 abbrev pub Map~ : Ended ℤ (Unit {0}) → Row → Type 0
