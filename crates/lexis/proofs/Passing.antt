@@ -53,11 +53,11 @@ module _ (p : ℕ → Bool) where
 
 -- ── the first byte of a text is sought before the text ──
 
-shifted-twice : (i j : ℕ) (o : Option ℕ) → shifted i (shifted j o) ≡ shifted (i + j) o
+pub shifted-twice : (i j : ℕ) (o : Option ℕ) → shifted i (shifted j o) ≡ shifted (i + j) o
 shifted-twice i j none = refl
 shifted-twice i j (some n) = ap some (omega arith)
 
-one-later : (b : ℕ) (c : Cut) → place (later b c) ≡ shifted 1 (place c)
+pub one-later : (b : ℕ) (c : Cut) → place (later b c) ≡ shifted 1 (place c)
 one-later b nowhere = refl
 one-later b (at u t) = ap some (omega arith)
 

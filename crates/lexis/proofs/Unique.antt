@@ -16,6 +16,7 @@ use Rattle.lexis.specs.declared.numeral.Number32.the-variants as N32
 use Rattle.lexis.specs.declared.scalar.Named.{Named}
 use Rattle.lexis.specs.declared.scalar.Named.the-variants.{Is, Unknown}
 use Rattle.lexis.proofs.blocks.seek.Reads as seek
+use Rattle.lexis.proofs.blocks.seek_either.Reads as seek-either
 use Rattle.lexis.proofs.blocks.seek_high.Reads as seek-high
 use Rattle.lexis.proofs.text.same.Reads as same
 use Rattle.lexis.proofs.text.begins.Reads as begins
@@ -60,6 +61,9 @@ until-one κs a x y s t p q = p ∙ sym q
 
 pub seek-one : One seek.Post
 seek-one κs a x y s t p q = p ∙ sym q
+
+pub seek-either-one : One seek-either.Post
+seek-either-one κs a x y s t p q = p ∙ sym q
 
 pub seek-high-one : One seek-high.Post
 seek-high-one κs a x y s t p q = p ∙ sym q

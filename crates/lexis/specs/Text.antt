@@ -77,6 +77,10 @@ spot Nowhere = none
 abbrev pub occurs : Text → Text → Bool
 occurs p s = found (cut p s)
 
+-- one of two bytes
+abbrev pub either : ℕ → ℕ → ℕ → Bool
+either a b c = eqb c a || eqb c b
+
 -- what stands before the first byte that passes the test, or all of s
 abbrev pub until : (ℕ → Bool) → Text → Text
 until p [] = []

@@ -5,6 +5,7 @@ mod scalar;
 mod text;
 
 pub use blocks::seek;
+pub use blocks::seek_either;
 pub use blocks::seek_high;
 pub use numeral::Number32;
 pub use numeral::Number64;

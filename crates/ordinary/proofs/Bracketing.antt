@@ -3,18 +3,19 @@ use Prim.Native.Nat.{ℕ, zero, suc, _+_, _-_, _≤_, _<_}
 use native.Mathlib.Nat.{suc-add, add-zero}
 use native.Mathlib.Numerals.{add-one, sub-one}
 use native.Mathlib.Omega.{arith}
-use mathlib.Core.Bool.{Bool, true, false}
+use mathlib.Core.Bool.{Bool, true, false, _||_, false≢true}
 use mathlib.Core.List.{List, [], _∷_, _++_}
 use mathlib.Core.Option.{Option, none, some}
 use mathlib.Core.Path.{_≡_, refl, sym, ap, _∙_}
 use borrow.Author.Tests.{ne-eqb}
 use lib.Dec.{eqb}
 use lib.ListN.{length, take, drop, getD, drop-of-length-le, length-drop}
-use lib.Seq.{take-length, length-take-le}
-use Rattle.lexis.specs.Text.{Text, if_then_else_, begins, after, Cut, nowhere, at, later, place}
+use lib.Seq.{take-length, length-take-le, drop-drop}
+use Rattle.lexis.specs.Text.{Text, if_then_else_, begins, after, Cut, nowhere, at, later, place, either, until}
 use Rattle.lexis.proofs.Lists.{view, behind, rest}
-use Rattle.lexis.proofs.Seeking.{shifted, Reach, begins-within, after-drop}
-use Rattle.meaning.specs.Parts.{each, depth, close, less-final, content-by, content, bracketed}
+use Rattle.lexis.proofs.Seeking.{shifted, unshifted, Reach, begins-within, after-drop}
+use Rattle.lexis.proofs.Passing.{shifted-twice, one-later}
+use Rattle.meaning.specs.Parts.{each, shallower, depth, close, less-final, content-by, content, bracketed}
 
 -- ── how many brackets stand open after a byte b ──
 
@@ -60,6 +61,35 @@ module _ (s : List ℕ) (d i : ℕ) where
 
   pub ended : length s ≤ i → match s d i ≡ none
   ended h = rw (drop-of-length-le s h)
+
+-- what is no bracket changes nothing
+passing : (d : ℕ) (x y : Bool) → x || y ≡ false → (if x then some (suc d) else if y then shallower d else some d) ≡ some d
+passing d true y e = absurd (false≢true (sym e))
+passing d false true e = absurd (false≢true (sym e))
+passing d false false e = refl
+
+abbrev far : List ℕ → ℕ
+far l = length (until (either 60 62) l)
+
+over : (d : ℕ) (l : List ℕ) → place (close d l) ≡ shifted (far l) (place (close d (drop (far l) l)))
+over d [] = unshifted (place (close d []))
+over d (b ∷ l) = by (either 60 62 b) refl (over d l)
+  where
+    n : Bool → ℕ
+    n k = length (if k then [] else b ∷ until (either 60 62) l)
+
+    by : (k : Bool) → either 60 62 b ≡ k → place (close d l) ≡ shifted (far l) (place (close d (drop (far l) l)))
+        → place (close d (b ∷ l)) ≡ shifted (n k) (place (close d (drop (n k) (b ∷ l))))
+    by true e o = unshifted (place (close d (b ∷ l)))
+    by false e o = ap (λ (z : Option ℕ). place (elim z [ none ↦ at [] l | some e ↦ later b (close e l) ])) (passing d (eqb b 60) (eqb b 62) e)
+        ∙ one-later b (close d l) ∙ ap (shifted 1) o ∙ shifted-twice 1 (far l) (place (close d (drop (far l) l)))
+        ∙ ap (λ (k : ℕ). shifted k (place (close d (drop (far l) l)))) (omega arith)
+
+-- from k on, the next bracket is at i
+pub sought : (s : List ℕ) (d k i : ℕ) → i ≡ k + far (drop k s) → match s d k ≡ match s d i
+sought s d k i e = ap (shifted k) (over d (drop k s)) ∙ shifted-twice k (far (drop k s)) (place (close d (drop (far (drop k s)) (drop k s))))
+    ∙ ap (λ (t : List ℕ). shifted (k + far (drop k s)) (place (close d t))) (drop-drop (far (drop k s)) k s)
+    ∙ ap (λ (n : ℕ). match s d n) (sym e)
 
 -- ── a `>` at the end ──
 

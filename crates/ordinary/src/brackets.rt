@@ -11,7 +11,7 @@ pub(crate) fn close(s: &[u8]) -> Found
     ensures { λ r. ⌜ spot r ≡ place (close 0 (now (s .entry))) ⌝ }
 {
     let mut depth: usize = 0;
-    let mut i = 0;
+    let mut i = lexis::seek_either(s, 0, 60, 62);
     while i < s.len() {
         let b = s[i];
         if b == b'<' {
@@ -22,7 +22,7 @@ pub(crate) fn close(s: &[u8]) -> Found
             }
             depth -= 1;
         }
-        i += 1;
+        i = lexis::seek_either(s, i + 1, 60, 62);
     }
     Found::Nowhere
 }
