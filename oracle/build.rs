@@ -1,6 +1,8 @@
 //! Finds the original `types.rs` and names it to the compiler by an absolute path, unchanged; links our library.
+//! `bench` is built by it too.
 
 use std::path::{Path, PathBuf};
+use std::process::Command;
 use std::{env, fs};
 
 /// Where the source lies when `CUTILE_IR_SRC` isn't set, seen from the repository root.
@@ -8,7 +10,6 @@ const DEFAULT_SOURCE: &str = "../shared/docs/src";
 
 fn main() {
     println!("cargo::rustc-check-cfg=cfg(has_source)");
-    println!("cargo::rerun-if-changed=build.rs");
     println!("cargo::rerun-if-env-changed=CUTILE_IR_SRC");
     let types = types_path();
     // Named even when absent, so that the next build notices its arrival.
@@ -20,6 +21,7 @@ fn main() {
         text = format!("#[allow(dead_code)]\n#[path = {found:?}]\npub mod types;\n");
     }
     link_library();
+    println!("cargo::rustc-env=BUILT_BY={}", compiler());
     let out = PathBuf::from(env::var_os("OUT_DIR").expect("cargo sets OUT_DIR"));
     fs::write(out.join("original_types.rs"), text).expect("OUT_DIR can be written");
 }
@@ -39,6 +41,14 @@ fn link_library() {
         println!("cargo::rustc-link-search=native={}", folder.display());
         println!("cargo::rustc-link-lib=static=capi");
     }
+}
+
+/// The compiler's name and version, which `bench` prints.
+fn compiler() -> String {
+    let rustc = env::var_os("RUSTC").expect("cargo sets RUSTC");
+    let said = Command::new(rustc).arg("--version").output();
+    let said = said.map(|out| String::from_utf8_lossy(&out.stdout).trim().to_string());
+    said.unwrap_or_else(|_| "an unknown rustc".to_string())
 }
 
 fn root() -> PathBuf {

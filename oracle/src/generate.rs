@@ -93,10 +93,8 @@ fn spliced(dice: &mut Dice) -> Vec<u8> {
     text
 }
 
-/// Marks in marks, 1 to 37 deep: each pass forms a fresh one.
-fn nested_marks(dice: &mut Dice) -> Vec<u8> {
-    let deepest = if dice.once_in(4) { 37 } else { 5 };
-    let depth = dice.from(1, deepest);
+/// Marks in marks, cut at one place or each at its own: each pass forms a fresh one.
+pub fn nest(dice: &mut Dice, depth: usize) -> Vec<u8> {
     let place = dice.from(1, MARK.len() - 1);
     let same = dice.once_in(2);
     let mut marks = Vec::new();
@@ -109,6 +107,14 @@ fn nested_marks(dice: &mut Dice) -> Vec<u8> {
         let (front, back) = MARK.as_bytes().split_at(cut);
         marks = [front, &marks, back].concat();
     }
+    marks
+}
+
+/// 1 to 37 deep.
+fn nested_marks(dice: &mut Dice) -> Vec<u8> {
+    let deepest = if dice.once_in(4) { 37 } else { 5 };
+    let depth = dice.from(1, deepest);
+    let marks = nest(dice, depth);
     let mut text = match dice.below(4) {
         0 => b"token".to_vec(),
         1 => b"tile<ptr<f32>>".to_vec(),

@@ -36,7 +36,6 @@ mod spell;
 mod strict;
 mod strictly;
 mod table;
-mod time;
 mod write;
 
 use std::env;
@@ -60,18 +59,16 @@ and our writer beside plain ones
                                        text beside the ordinary readings
   oracle round COUNT [SEED]            our writer beside a plain one on COUNT records in rooms of
                                        several sizes; what is written is read back by every reader
-  oracle time                          our reader's time beside Type::parse's, as a ratio
   oracle list [DIR]                    writes the fixed list anew: DIR/list1.txt, DIR/list2.txt, ...
   oracle check-list [DIR]              checks every row of the list, and that it would be written so
   oracle table DIR                     writes DIR/Part1.antt, DIR/Part2.antt, ...
   oracle check-table DIR               checks that the parts in DIR are what `table` writes
   oracle scalars                       widths, kinds and bits of the 16 scalars
 
-The list's DIR is crates/replay/data unless named. `--original`, `agree`, `list` and `time` need
-the original source, found at build time: CUTILE_IR_SRC names the folder that holds
-src/ir/types.rs. The other commands also hold it beside the plain reading where it is there.
-`compare`, `strict`, `round` and `time` need our library: TYPETEXT_LIB names the folder that
-holds libcapi.a.
+The list's DIR is crates/replay/data unless named. `--original`, `agree` and `list` need the
+original source, found at build time: CUTILE_IR_SRC names the folder that holds src/ir/types.rs.
+The other commands also hold it beside the plain reading where it is there. `compare`, `strict`
+and `round` need our library: TYPETEXT_LIB names the folder that holds libcapi.a.
 Exit: 0 all is well, 1 something differs or can't be done, 2 the command isn't understood.
 ";
 
@@ -129,7 +126,6 @@ fn run(words: &[&str], out: &mut dyn Write) -> Result<(), Failure> {
         ["strict", count, seed] => strict(out, count, seed)?,
         ["round", count] => round(out, count, "1")?,
         ["round", count, seed] => round(out, count, seed)?,
-        ["time"] => time(out)?,
         ["list"] => list(out, &list_path())?,
         ["list", folder] => list(out, Path::new(folder))?,
         ["check-list"] => check_list(out, &list_path())?,
@@ -179,12 +175,6 @@ fn round(out: &mut dyn Write, count: &str, seed: &str) -> Result<(), Failure> {
     let (count, seed) = (number(count)?, number(seed)?);
     ours::needed()?;
     Ok(round::run(out, count, seed)?)
-}
-
-fn time(out: &mut dyn Write) -> Result<(), Failure> {
-    ours::needed()?;
-    original::needed()?;
-    Ok(time::time(out)?)
 }
 
 /// The n-th part of the list, from 1.

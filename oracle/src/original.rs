@@ -23,12 +23,6 @@ pub fn read(_: &[u8]) -> Option<Answer> {
     None
 }
 
-/// `Type::parse` alone, for measuring: 0 where it returns a type.
-#[cfg(not(has_source))]
-pub fn parsed(_: &[u8]) -> u8 {
-    0
-}
-
 /// byte_width, is_integer, is_float; None where the source is absent.
 #[cfg(not(has_source))]
 pub fn scalar_facts(_: Scalar) -> Option<(usize, bool, bool)> {
@@ -36,7 +30,7 @@ pub fn scalar_facts(_: Scalar) -> Option<(usize, bool, bool)> {
 }
 
 #[cfg(has_source)]
-pub use with_source::{parsed, read, scalar_facts};
+pub use with_source::{read, scalar_facts};
 
 #[cfg(has_source)]
 mod with_source {
@@ -62,11 +56,6 @@ mod with_source {
             return Some(Answer::refused(4));
         }
         Some(Answer::Accepted(record, None))
-    }
-
-    pub fn parsed(text: &[u8]) -> u8 {
-        let text = std::str::from_utf8(text).unwrap_or_default();
-        u8::from(std::hint::black_box(Type::parse(text)).is_none())
     }
 
     pub fn scalar_facts(scalar: Scalar) -> Option<(usize, bool, bool)> {

@@ -22,11 +22,6 @@ pub fn read(_: &[u8]) -> Option<Result<Answer, String>> {
     None
 }
 
-#[cfg(not(has_library))]
-pub fn reading(_: &[u8]) -> u8 {
-    0
-}
-
 /// The same for the strict reader.
 #[cfg(not(has_library))]
 pub fn read_strict(_: &[u8]) -> Option<Result<Answer, String>> {
@@ -41,12 +36,12 @@ pub fn write(_: &Flat, _buffer: &mut [u8], _start: usize, _room: usize) -> Optio
 }
 
 #[cfg(has_library)]
-pub use with_library::{read, read_strict, reading};
+pub use with_library::{read, read_strict};
 #[cfg(has_library)]
 pub use writer::write;
 
 #[cfg(has_library)]
-mod with_library {
+pub mod with_library {
     use super::{Answer, Flat};
     use crate::answer::{Counts, Kind, Record};
     use std::mem::MaybeUninit;
@@ -55,10 +50,10 @@ mod with_library {
     #[repr(C)]
     #[derive(Clone, Copy)]
     pub struct Reading {
-        value: Flat,
+        pub value: Flat,
         place: usize,
         counts: [usize; 4],
-        refusal: u8,
+        pub refusal: u8,
     }
 
     // The reading is returned by value: on x86-64 that is a hidden pointer in front, and the
@@ -70,6 +65,7 @@ mod with_library {
         fn typetext_parse_strict(out: *mut Reading, text: *const u8, len: usize);
     }
 
+    #[inline]
     fn called(call: Call, text: &[u8]) -> Reading {
         let mut out = MaybeUninit::uninit();
         unsafe {
@@ -78,17 +74,23 @@ mod with_library {
         }
     }
 
-    /// The refusal's number alone, for measuring.
-    pub fn reading(text: &[u8]) -> u8 {
-        called(typetext_parse, text).refusal
+    /// As it comes back; `bench` measures this call and the next.
+    #[inline]
+    pub fn parse(text: &[u8]) -> Reading {
+        called(typetext_parse, text)
+    }
+
+    #[inline]
+    pub fn parse_strict(text: &[u8]) -> Reading {
+        called(typetext_parse_strict, text)
     }
 
     pub fn read(text: &[u8]) -> Option<Result<Answer, String>> {
-        Some(answered(&called(typetext_parse, text)))
+        Some(answered(&parse(text)))
     }
 
     pub fn read_strict(text: &[u8]) -> Option<Result<Answer, String>> {
-        Some(answered(&called(typetext_parse_strict, text)))
+        Some(answered(&parse_strict(text)))
     }
 
     fn answered(reading: &Reading) -> Result<Answer, String> {

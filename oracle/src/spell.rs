@@ -12,13 +12,18 @@ pub fn spelled(dice: &mut Dice) -> (Record, Vec<u8>) {
     if dice.once_in(200) {
         at_the_longest(dice, &mut record);
     }
+    let text = text_of(dice, &record);
+    (record, text)
+}
+
+/// One of the strict texts of a record that has a text.
+pub fn text_of(dice: &mut Dice, record: &Record) -> Vec<u8> {
     let mut speller = Speller {
         dice,
         out: String::new(),
     };
-    speller.any(&record);
-    let text = speller.out.into_bytes();
-    (record, text)
+    speller.any(record);
+    speller.out.into_bytes()
 }
 
 /// One list so long that the text has about 1,024 bytes: mostly a shape, as its separators are
