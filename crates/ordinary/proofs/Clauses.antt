@@ -119,7 +119,7 @@ entries-are s e = e
 
 -- ── the sparse dimension ──
 
-turned : (a b : ℕ) → eqb a b ≡ eqb b a
+pub turned : (a b : ℕ) → eqb a b ≡ eqb b a
 turned a b = by (eqb a b) refl
   where
     by : (d : Bool) → eqb a b ≡ d → d ≡ eqb b a

@@ -25,13 +25,11 @@ ghost use Prim.Native.Nat.{suc, _≤_};
 ghost use mathlib.Core.Path.{_≡_};
 ghost use mathlib.Core.Option.{Option, some};
 ghost use lib.ListN.{length};
-ghost use Rattle.lexis.specs.Names.{scalar-name};
 ghost use Rattle.meaning.specs.Found.{plain};
 ghost use Rattle.meaning.specs.Parts.{each};
-ghost use Rattle.meaning.specs.Ordinary.{pointer, forms, by-forms, unmarked, passes, ordinary};
-ghost use Rattle.meaning.specs.declared.Kind.the-variants as K;
+ghost use Rattle.meaning.specs.Ordinary.{pointer, unmarked, passes, ordinary};
 ghost use Rattle.ordinary.specs.Shown.{said, shown, Told, attributed, lengths-within, judged};
-ghost use Rattle.ordinary.specs.Forms.{shorthand};
+ghost use Rattle.ordinary.specs.Forms.{shorthand, unprefixed, bare, first-of};
 
 // A type without lists.
 fn plain(kind: Kind, element: Scalar) -> Parsed
@@ -52,7 +50,7 @@ fn parse_ptr(inner: &[u8]) -> Parsed
 
 // Bare scalar name.
 fn parse_bare(s: &[u8]) -> Parsed
-    ensures { λ r. ⌜ said r ≡ each (shown 8) (each (plain K.Scalar) (scalar-name (now (s .entry)))) ⌝ }
+    ensures { λ r. ⌜ said r ≡ each (shown 8) (bare (now (s .entry))) ⌝ }
 {
     match lexis::parse_scalar(s) {
         Named::Is(e) => plain(Kind::Scalar, e),
@@ -81,70 +79,45 @@ fn try_form(s: &[u8], prefix: &[u8]) -> Applied
     }
 }
 
-// Prefixed forms.
-fn parse_prefixed(s: &[u8]) -> Parsed
-    requires { ⌜ length (now s) ≤ 1024 ⌝ }
-    ensures { λ r. ⌜ said r ≡ each (shown 8) (by-forms forms (now (s .entry))) ⌝ }
+// `s` without the prefix that both spellings share.
+fn unprefixed(s: &[u8]) -> &[u8]
+    ensures { λ r. ⌜ now r ≡ unprefixed (now (s .entry)) ⌝ }
 {
-    let t = try_form(s, b"!cuda_tile.tile<");
-    if t.applies {
-        return parse_tile(strip_prefix_suffix(s, b"!cuda_tile.tile<", t.len));
+    if lexis::begins(s, b"!cuda_tile.") {
+        &s[11..]
+    } else {
+        s
     }
-    let v = try_form(s, b"!cuda_tile.tensor_view<");
-    if v.applies {
-        return parse_tensor_view(strip_prefix_suffix(s, b"!cuda_tile.tensor_view<", v.len));
-    }
-    let p = try_form(s, b"!cuda_tile.partition_view<");
-    if p.applies {
-        return parse_partition_view(strip_prefix_suffix(s, b"!cuda_tile.partition_view<", p.len));
-    }
-    let g = try_form(s, b"!cuda_tile.gather_scatter_view<");
-    if g.applies {
-        return parse_gather_scatter_view(strip_prefix_suffix(
-            s,
-            b"!cuda_tile.gather_scatter_view<",
-            g.len,
-        ));
-    }
-    let d = try_form(s, b"!cuda_tile.strided_view<");
-    if d.applies {
-        return parse_strided_view(strip_prefix_suffix(s, b"!cuda_tile.strided_view<", d.len));
-    }
-    let q = try_form(s, b"!cuda_tile.ptr<");
-    if q.applies {
-        return parse_ptr(strip_prefix_suffix(s, b"!cuda_tile.ptr<", q.len));
-    }
-    parse_shorthand(s)
 }
 
-// Shorthand forms (no `!cuda_tile.` prefix), and at last a bare scalar.
-fn parse_shorthand(s: &[u8]) -> Parsed
-    requires { ⌜ length (now s) ≤ 1024 ⌝ }
-    ensures { λ r. ⌜ said r ≡ each (shown 8) (by-forms shorthand (now (s .entry))) ⌝ }
+// The forms, by `t`, which is `s` without the prefix; at last `s` as a bare scalar.
+fn parse_named(s: &[u8], t: &[u8]) -> Parsed
+    requires { ⌜ length (now t) ≤ 1024 ⌝ }
+    ensures { λ r. ⌜ said r ≡ each (shown 8) (first-of shorthand (now (t .entry)) (bare (now (s .entry)))) ⌝ }
 {
-    let t = try_form(s, b"tile<");
-    if t.applies {
-        return parse_tile(strip_prefix_suffix(s, b"tile<", t.len));
+    let e = try_form(t, b"tile<");
+    if e.applies {
+        return parse_tile(strip_prefix_suffix(t, b"tile<", e.len));
     }
-    let v = try_form(s, b"tensor_view<");
+    let v = try_form(t, b"tensor_view<");
     if v.applies {
-        return parse_tensor_view(strip_prefix_suffix(s, b"tensor_view<", v.len));
+        return parse_tensor_view(strip_prefix_suffix(t, b"tensor_view<", v.len));
     }
-    let p = try_form(s, b"partition_view<");
+    let p = try_form(t, b"partition_view<");
     if p.applies {
-        return parse_partition_view(strip_prefix_suffix(s, b"partition_view<", p.len));
+        return parse_partition_view(strip_prefix_suffix(t, b"partition_view<", p.len));
     }
-    let g = try_form(s, b"gather_scatter_view<");
+    let g = try_form(t, b"gather_scatter_view<");
     if g.applies {
-        return parse_gather_scatter_view(strip_prefix_suffix(s, b"gather_scatter_view<", g.len));
+        return parse_gather_scatter_view(strip_prefix_suffix(t, b"gather_scatter_view<", g.len));
     }
-    let d = try_form(s, b"strided_view<");
+    let d = try_form(t, b"strided_view<");
     if d.applies {
-        return parse_strided_view(strip_prefix_suffix(s, b"strided_view<", d.len));
+        return parse_strided_view(strip_prefix_suffix(t, b"strided_view<", d.len));
     }
-    let q = try_form(s, b"ptr<");
+    let q = try_form(t, b"ptr<");
     if q.applies {
-        return parse_ptr(strip_prefix_suffix(s, b"ptr<", q.len));
+        return parse_ptr(strip_prefix_suffix(t, b"ptr<", q.len));
     }
     parse_bare(s)
 }
@@ -154,13 +127,11 @@ fn parse_unmarked(s: &[u8]) -> Parsed
     requires { ⌜ length (now s) ≤ 1024 ⌝ }
     ensures { λ r. ⌜ said r ≡ each (shown 8) (unmarked (now (s .entry))) ⌝ }
 {
-    if lexis::same(s, b"!cuda_tile.token") {
+    let t = unprefixed(s);
+    if lexis::same(t, b"token") {
         return plain(Kind::Token, Scalar::I1);
     }
-    if lexis::same(s, b"token") {
-        return plain(Kind::Token, Scalar::I1);
-    }
-    parse_prefixed(s)
+    parse_named(s, t)
 }
 
 fn with_pointer_attribute(p: Parsed) -> Parsed
