@@ -3,7 +3,8 @@ use mathlib.Core.Path.{_≡_, refl, sym, ap, _∙_}
 use mathlib.Core.Bool.{Bool, true, false, _&&_, _||_}
 use mathlib.Core.Option.{Option, none, some}
 use mathlib.Core.List.{List, [], _∷_}
-use Prim.Native.Nat.{ℕ, zero, suc, _+_, _≤_, _<_}
+use Prim.Native.Nat.{ℕ, zero, suc, _+_, _-_, _≤_, _<_}
+use native.Mathlib.Nat.{add-zero}
 use native.Mathlib.Numerals.{add-one}
 use native.Mathlib.Omega.{arith}
 use lib.Dec.{eqb}
@@ -11,7 +12,8 @@ use lib.ListN.{length, take, drop, getD, length-drop}
 use lib.Seq.{drop-drop, getD-drop}
 use Rattle.lexis.specs.Text.{if_then_else_, begins, after, Cut, nowhere, at, later, cut, place, until}
 use Rattle.lexis.specs.Parts.{some-of}
-use Rattle.lexis.proofs.Seeking.{shifted, unshifted, until-within}
+use Rattle.lexis.proofs.Lists.{view}
+use Rattle.lexis.proofs.Seeking.{never, shifted, miss, until-within}
 
 module _ (p : ℕ → Bool) where
   or-last : (a b c : Bool) → a || (b || c) ≡ (a || b) || c
@@ -51,7 +53,7 @@ module _ (p : ℕ → Bool) where
       let b = ap (λ (t : List ℕ). length (until p t)) (drop-drop k i s) in
       omega arith
 
--- ── the first byte of a text is sought before the text ──
+-- ── a byte of a text is sought before the text ──
 
 pub shifted-twice : (i j : ℕ) (o : Option ℕ) → shifted i (shifted j o) ≡ shifted (i + j) o
 shifted-twice i j none = refl
@@ -61,32 +63,43 @@ pub one-later : (b : ℕ) (c : Cut) → place (later b c) ≡ shifted 1 (place c
 one-later b nowhere = refl
 one-later b (at u t) = ap some (omega arith)
 
-module _ (p : List ℕ) (some-byte : length p ≡ 0 → ⊥) where
-  abbrev far : List ℕ → ℕ
-  far l = length (until (eqb (getD p 0 0)) l)
+-- no text stands where it differs by a byte
+byte-off : (p l : List ℕ) (k : ℕ) → k < length p → k < length l → eqb (getD p k 0) (getD l k 0) ≡ false → begins p l ≡ false
+byte-off [] l k h g e = let f : ⊥ = omega arith in absurd f
+byte-off (c ∷ p) [] k h g e = refl
+byte-off (c ∷ p) (b ∷ l) zero h g e = ap (λ (d : Bool). d && begins p l) e
+byte-off (c ∷ p) (b ∷ l) (suc k) h g e = ap (λ (d : Bool). eqb c b && d) (byte-off p l k (omega arith) (omega arith) e) ∙ never (eqb c b)
 
-  -- no text stands where its first byte doesn't
-  over : (l : List ℕ) → place (cut p l) ≡ shifted (far l) (place (cut p (drop (far l) l)))
-  over [] = unshifted (place (cut p []))
-  over (b ∷ l) = by (eqb (getD p 0 0) b) refl (λ e. first-off p b l some-byte e) (over l)
+module _ (p s : List ℕ) (k : ℕ) (h : k < length p) where
+  abbrev from : ℕ → Option ℕ
+  from a = shifted a (place (cut p (drop a s)))
+
+  -- where t is what stands from k bytes past a on: nothing is passed over up to the byte k of p
+  walk : (a : ℕ) (t : List ℕ) → t ≡ drop (a + k) s → from a ≡ from (a + length (until (eqb (getD p k 0)) t))
+  walk a [] e = ap from (sym (add-zero a))
+  walk a (b ∷ t) e = by (eqb (getD p k 0) b) refl (walk (a + 1) t)
     where
-      first-off : (q : List ℕ) (b : ℕ) (l : List ℕ) → (length q ≡ 0 → ⊥) → eqb (getD q 0 0) b ≡ false → begins q (b ∷ l) ≡ false
-      first-off [] b l z e = absurd (z refl)
-      first-off (c ∷ q) b l z e = ap (λ (k : Bool). k && begins q l) e
+      inside : a + k < length s
+      inside = let l = length-drop (a + k) s in let m = ap length e in omega arith
 
-      n : Bool → ℕ
-      n k = length (if k then [] else b ∷ until (eqb (getD p 0 0)) l)
+      seen : b ∷ t ≡ getD s (a + k) 0 ∷ drop (a + k + 1) s
+      seen = e ∙ view s (a + k) inside
 
-      by : (k : Bool) → eqb (getD p 0 0) b ≡ k → (eqb (getD p 0 0) b ≡ false → begins p (b ∷ l) ≡ false) → place (cut p l) ≡ shifted (far l) (place (cut p (drop (far l) l))) → place (cut p (b ∷ l)) ≡ shifted (n k) (place (cut p (drop (n k) (b ∷ l))))
-      by true e h o = unshifted (place (cut p (b ∷ l)))
-      by false e h o = ap (λ (k : Bool). place (if k then at [] (after p (b ∷ l)) else later b (cut p l))) (h e)
-          ∙ one-later b (cut p l) ∙ ap (shifted 1) o ∙ shifted-twice 1 (far l) (place (cut p (drop (far l) l)))
-          ∙ ap (λ (k : ℕ). shifted k (place (cut p (drop (far l) l)))) (omega arith)
+      off : eqb (getD p k 0) b ≡ false → begins p (drop a s) ≡ false
+      off f = byte-off p (drop a s) k h (let l = length-drop a s in let m = inside in omega arith)
+          (ap (λ (x : ℕ). eqb (getD p k 0) x) (getD-drop a s k 0 ∙ sym (ap (λ (l : List ℕ). getD l 0 0) seen)) ∙ f)
 
-  pub sought : (s : List ℕ) (k i : ℕ) → i ≡ k + far (drop k s) → shifted k (place (cut p (drop k s))) ≡ shifted i (place (cut p (drop i s)))
-  sought s k i e = ap (shifted k) (over (drop k s)) ∙ shifted-twice k (far (drop k s)) (place (cut p (drop (far (drop k s)) (drop k s))))
-      ∙ ap (λ (t : List ℕ). shifted (k + far (drop k s)) (place (cut p t))) (drop-drop (far (drop k s)) k s)
-      ∙ ap (λ (n : ℕ). shifted n (place (cut p (drop n s)))) (sym e)
+      by : (d : Bool) → eqb (getD p k 0) b ≡ d → (t ≡ drop (a + 1 + k) s → from (a + 1) ≡ from (a + 1 + length (until (eqb (getD p k 0)) t)))
+          → from a ≡ from (a + length (if d then [] else b ∷ until (eqb (getD p k 0)) t))
+      by true f w = ap from (sym (add-zero a))
+      by false f w = miss p s a (let m = inside in omega arith) (off f)
+          ∙ w (ap (drop 1) seen ∙ ap (λ (n : ℕ). drop n s) {x = a + k + 1} {y = a + 1 + k} (omega arith))
+          ∙ ap from {x = a + 1 + length (until (eqb (getD p k 0)) t)} {y = a + suc (length (until (eqb (getD p k 0)) t))} (omega arith)
+
+  -- from the byte i on, the next byte k of p is at j
+  pub sought : (a i j : ℕ) → a + k ≡ i → j ≡ i + length (until (eqb (getD p k 0)) (drop i s)) → from a ≡ from (j - k)
+  sought a i j h e = walk a (drop i s) (ap (λ (n : ℕ). drop n s) (sym h))
+      ∙ ap from {x = a + length (until (eqb (getD p k 0)) (drop i s))} {y = j - k} (omega arith)
 
 -- and not past the end
 pub sought-within : (p : ℕ → Bool) (s : List ℕ) (k i : ℕ) → k ≤ length s → i ≡ k + length (until p (drop k s)) → i ≤ length s

@@ -30,7 +30,7 @@ all-passed p t j l = rw (drop-of-length-le p l)
 
 -- ── equality ──
 
-never : (d : Bool) → d && false ≡ false
+pub never : (d : Bool) → d && false ≡ false
 never true = refl
 never false = refl
 
@@ -135,6 +135,22 @@ pub begins-within : (p s : List ℕ) → begins p s ≡ true → length p ≤ le
 begins-within [] s e = omega arith
 begins-within (c ∷ p) [] e = absurd (false≢true e)
 begins-within (c ∷ p) (b ∷ s) e = let h : length p ≤ length s = begins-within p s (right (eqb c b) (begins p s) e) in omega arith
+
+-- a text that is longer than another stands nowhere in it
+pub too-short : (p s : List ℕ) → length s < length p → begins p s ≡ false
+too-short p s h = by (begins p s) (begins-within p s)
+  where
+    by : (d : Bool) → (d ≡ true → length p ≤ length s) → d ≡ false
+    by true f = let g = f refl in let z : ⊥ = omega arith in absurd z
+    by false f = refl
+
+pub nowhere-short : (p s : List ℕ) → length s < length p → place (cut p s) ≡ none
+nowhere-short p [] h = rw (too-short p [] h)
+nowhere-short p (b ∷ s) h = rw (too-short p (b ∷ s) h) (by (cut p s) (nowhere-short p s (omega arith)))
+  where
+    by : (c : Cut) → place c ≡ none → place (later b c) ≡ none
+    by nowhere e = refl
+    by (at u t) e = let z : _≡_ {A = ℕ} 0 1 = cc in let f : ⊥ = omega arith in absurd f
 
 pub after-drop : (p s : List ℕ) → begins p s ≡ true → after p s ≡ drop (length p) s
 after-drop [] s e = refl

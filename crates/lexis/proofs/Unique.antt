@@ -21,6 +21,7 @@ use Rattle.lexis.proofs.blocks.seek_high.Reads as seek-high
 use Rattle.lexis.proofs.text.same.Reads as same
 use Rattle.lexis.proofs.text.begins.Reads as begins
 use Rattle.lexis.proofs.text.find.Reads as find
+use Rattle.lexis.proofs.text.find_by.Reads as find-by
 use Rattle.lexis.proofs.text.contains.Reads as contains
 use Rattle.lexis.proofs.text.until.Reads as until
 use Rattle.lexis.proofs.text.white.Reads as white
@@ -122,6 +123,9 @@ said-one Unknown Unknown e = refl
 
 pub find-one : One find.Post
 find-one κs a x y s t p q = spot-one x y (p ∙ sym q)
+
+pub find-by-one : One find-by.Post
+find-by-one κs a x y s t p q = spot-one x y (p ∙ sym q)
 
 pub parse-i64-one : One parse-i64.Post
 parse-i64-one κs a x y s t p q = said64-one x y (p ∙ sym q)

@@ -18,6 +18,7 @@ pub use text::Found;
 pub use text::begins;
 pub use text::contains;
 pub use text::find;
+pub use text::find_by;
 pub use text::same;
 pub use text::trim;
 pub use text::trim_end_matches;

@@ -1,6 +1,7 @@
 // Seeking and trimming.
 use super::blocks::seek;
 ghost use mathlib.Core.Path.{_≡_};
+ghost use Prim.Native.Nat.{_≤_, _<_};
 ghost use lib.Dec.{eqb};
 ghost use lib.ListN.{drop, length};
 ghost use Rattle.lexis.specs.Text.{same, begins, cut, place, spot, occurs, until};
@@ -14,18 +15,17 @@ pub enum Found {
 
 // Whether `what` stands in `text` at the place `at`.
 fn stands(text: &[u8], what: &[u8], at: usize) -> bool
+    requires { ⌜ at ≤ length (now text) ⌝ }
     ensures { λ r. ⌜ r ≡ begins (now (what .entry)) (drop at (now (text .entry))) ⌝ }
 {
-    let mut k = at;
+    if text.len() - at < what.len() {
+        return false;
+    }
     let mut j = 0;
     while j < what.len() {
-        if text.len() <= k {
+        if what[j] != text[at + j] {
             return false;
         }
-        if what[j] != text[k] {
-            return false;
-        }
-        k += 1;
         j += 1;
     }
     true
@@ -48,22 +48,41 @@ pub fn same(a: &[u8], b: &[u8]) -> bool
     stands(b, a, 0)
 }
 
-// The first place of `what` in `text`; of nothing, the place 0. The first byte is looked for before the rest is compared.
+// The first place of `what`, whose byte `k` is looked for before the rest is compared.
+fn find_from(text: &[u8], what: &[u8], k: usize) -> Found
+    requires { ⌜ k < length (now what) ⌝ }
+    ensures { λ r. ⌜ spot r ≡ place (cut (now (what .entry)) (now (text .entry))) ⌝ }
+{
+    let b = what[k];
+    let mut i = seek(text, k, b);
+    while i < text.len() {
+        if stands(text, what, i - k) {
+            return Found::At(i - k);
+        }
+        i = seek(text, i + 1, b);
+    }
+    Found::Nowhere
+}
+
+// The first place of `what` in `text`; of nothing, the place 0.
 pub fn find(text: &[u8], what: &[u8]) -> Found
     ensures { λ r. ⌜ spot r ≡ place (cut (now (what .entry)) (now (text .entry))) ⌝ }
 {
     if what.len() == 0 {
         return Found::At(0);
     }
-    let first = what[0];
-    let mut i = seek(text, 0, first);
-    while i < text.len() {
-        if stands(text, what, i) {
-            return Found::At(i);
-        }
-        i = seek(text, i + 1, first);
+    find_from(text, what, 0)
+}
+
+// The same, sought by the byte `k` of `what`: quick where that byte is rare.
+pub fn find_by(text: &[u8], what: &[u8], k: usize) -> Found
+    ensures { λ r. ⌜ spot r ≡ place (cut (now (what .entry)) (now (text .entry))) ⌝ }
+{
+    if k < what.len() {
+        find_from(text, what, k)
+    } else {
+        find(text, what)
     }
-    Found::Nowhere
 }
 
 // Whether `what` occurs in `text`.

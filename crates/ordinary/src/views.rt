@@ -50,7 +50,7 @@ pub(crate) fn parse_view_tile_shape(inner: &[u8]) -> TileShape
     requires { ⌜ length (now inner) ≤ 1024 ⌝ }
     ensures { λ r. ⌜ Tile-is (now (inner .entry)) r (between (bytes "tile=(") (bytes ")") (now (inner .entry))) ⌝ }
 {
-    match lexis::find(inner, b"tile=(") {
+    match lexis::find_by(inner, b"tile=(", 5) {
         Found::At(i) => {
             let start = i + 6;
             match lexis::find(&inner[start..], b")") {
@@ -121,7 +121,7 @@ pub(crate) fn parse_nested_tensor_view(inner: &[u8], behind: usize) -> Tensor
     requires { ⌜ (length (now inner) ≤ 1024) × (behind ≤ length (now inner)) ⌝ }
     ensures { λ r. ⌜ Tensor-is r (inner-by (opened (now (inner .entry)) (drop behind (now (inner .entry))))) ⌝ }
 {
-    match lexis::find(inner, b"tensor_view=!cuda_tile.tensor_view<") {
+    match lexis::find_by(inner, b"tensor_view=!cuda_tile.tensor_view<", 12) {
         Found::At(i) => parse_enclosed(&inner[i + 35..]),
         Found::Nowhere => match lexis::find(inner, b"!cuda_tile.tensor_view<") {
             Found::At(i) => parse_enclosed(&inner[i + 23..]),
@@ -134,7 +134,7 @@ fn parse_behind(s: &[u8]) -> Tensor
     requires { ⌜ length (now s) ≤ 1024 ⌝ }
     ensures { λ r. ⌜ Tensor-is r (inner-by (cut (bytes "tensor_view<") (now (s .entry)) or none)) ⌝ }
 {
-    match lexis::find(s, b"tensor_view<") {
+    match lexis::find_by(s, b"tensor_view<", 10) {
         Found::At(i) => parse_enclosed(&s[i + 12..]),
         Found::Nowhere => no_tensor(),
     }
@@ -182,11 +182,11 @@ fn no_view() -> View
     }
 }
 
-// Where the list after the first `prefix` stands.
-pub(crate) fn list_after(inner: &[u8], prefix: &[u8]) -> Closed
+// Where the list after the first `prefix` stands; the prefix is sought by its byte `rare`.
+pub(crate) fn list_after(inner: &[u8], prefix: &[u8], rare: usize) -> Closed
     ensures { λ r. ⌜ List-is (now (inner .entry)) r (list-after (now (prefix .entry)) (now (inner .entry))) ⌝ }
 {
-    match lexis::find(inner, prefix) {
+    match lexis::find_by(inner, prefix, rare) {
         Found::At(i) => {
             let start = i + prefix.len();
             match lexis::find(&inner[start..], b"]") {
@@ -199,11 +199,11 @@ pub(crate) fn list_after(inner: &[u8], prefix: &[u8]) -> Closed
 }
 
 // The list after `prefix`, or `own` where it is absent or never closed.
-pub(crate) fn parse_i32_list_after(inner: &[u8], prefix: &[u8], own: List32) -> List32
+pub(crate) fn parse_i32_list_after(inner: &[u8], prefix: &[u8], rare: usize, own: List32) -> List32
     requires { ⌜ (length (now inner) ≤ 1024) × Few (list32 own) ⌝ }
     ensures { λ r. ⌜ (list32 r ≡ list-laid (list32 own) (list-after (now (prefix .entry)) (now (inner .entry)))) × Few (list32 r) ⌝ }
 {
-    match list_after(inner, prefix) {
+    match list_after(inner, prefix, rare) {
         Closed::Between(a, e) => lists::parse_smalls(&inner[a..e], 44, 0),
         Closed::Unclosed => own,
         Closed::Absent => own,
@@ -214,7 +214,7 @@ pub(crate) fn parse_i32_list_after(inner: &[u8], prefix: &[u8], own: List32) -> 
 fn parse_sparse(inner: &[u8]) -> List32
     ensures { λ r. ⌜ Reads (list32 r) (sparse-by (cut (bytes "sparse_dim=") (now (inner .entry)))) ⌝ }
 {
-    match lexis::find(inner, b"sparse_dim=") {
+    match lexis::find_by(inner, b"sparse_dim=", 1) {
         Found::At(i) => {
             let t = &inner[i + 11..];
             let k = lexis::until(t, 44);
@@ -260,7 +260,7 @@ pub(crate) fn parse_partition_view(inner: &[u8]) -> Parsed
         return nothing();
     }
     let tile = v.tile;
-    match list_after(inner, b"dim_map=[") {
+    match list_after(inner, b"dim_map=[", 6) {
         Closed::Between(a, e) => {
             view_of(
                 Kind::Partition,
@@ -308,7 +308,7 @@ pub(crate) fn parse_strided_view(inner: &[u8]) -> Parsed
     }
     let tile = v.tile;
     let n = tile.len;
-    let map = parse_i32_list_after(inner, b"dim_map=[", lists::count_up(n));
-    let traversal = parse_i32_list_after(inner, b"traversal_strides=[", lists::ones(n));
+    let map = parse_i32_list_after(inner, b"dim_map=[", 6, lists::count_up(n));
+    let traversal = parse_i32_list_after(inner, b"traversal_strides=[", 3, lists::ones(n));
     view_of(Kind::Strided, v, map, traversal, lists::none32())
 }

@@ -15,11 +15,11 @@ list-after-spec =
     (λ c κs. search needs)
     (λ c. search needs)
     (λ c. let a = c .before .before .before .before .before .before .args in
-    omega (arith, cut-within (a .prefix .now) (a .inner .now) _ (sym (c .before .before .before .find .ensures) ∙ ap spot (c .before .i .given .1))))
+    omega (arith, cut-within (a .prefix .now) (a .inner .now) _ (sym (c .before .before .before .find-by .ensures) ∙ ap spot (c .before .i .given .1))))
     (λ c. let a = c .before .before .before .before .before .before .args in
-    omega (arith, cut-within (a .prefix .now) (a .inner .now) _ (sym (c .before .before .before .find .ensures) ∙ ap spot (c .before .i .given .1))))
+    omega (arith, cut-within (a .prefix .now) (a .inner .now) _ (sym (c .before .before .before .find-by .ensures) ∙ ap spot (c .before .i .given .1))))
     (λ c. let a = c .before .before .before .before .before .before .args in
-    omega (arith, cut-within (a .prefix .now) (a .inner .now) _ (sym (c .before .before .before .find .ensures) ∙ ap spot (c .before .i .given .1))))
+    omega (arith, cut-within (a .prefix .now) (a .inner .now) _ (sym (c .before .before .before .find-by .ensures) ∙ ap spot (c .before .i .given .1))))
     (λ c. search needs)
     (λ c. search needs)
     (λ c κs. search needs)
@@ -27,16 +27,16 @@ list-after-spec =
     (λ c. let p = c .before .before .before .before .before .before in let a = p .before .before .before .before .before .before .args in
     omega (
       arith,
-      L.next-within (a .prefix .now) (a .inner .now) _ (sym (p .before .before .before .find .ensures) ∙ ap spot (p .before .i .given .1))
-          (bytes "]") _ (sym (c .before .before .before .find2 .ensures) ∙ ap spot (c .before .n .given .1)),
+      L.next-within (a .prefix .now) (a .inner .now) _ (sym (p .before .before .before .find-by .ensures) ∙ ap spot (p .before .i .given .1))
+          (bytes "]") _ (sym (c .before .before .before .find .ensures) ∙ ap spot (c .before .n .given .1)),
     ))
     (λ c. search needs)
     (λ c. search needs)
     (λ c. let p = c .before .before .before .before .before .before in let a = p .before .before .before .before .before .before .args in
-    L.list-closed (a .prefix .now) (a .inner .now) _ (sym (p .before .before .before .find .ensures) ∙ ap spot (p .before .i .given .1))
-    _ (sym (c .before .before .before .find2 .ensures) ∙ ap spot (c .before .n .given .1)))
+    L.list-closed (a .prefix .now) (a .inner .now) _ (sym (p .before .before .before .find-by .ensures) ∙ ap spot (p .before .i .given .1))
+    _ (sym (c .before .before .before .find .ensures) ∙ ap spot (c .before .n .given .1)))
     (λ c. let p = c .before .before .before .before .before in let a = p .before .before .before .before .before .before .args in
-    L.list-unclosed (a .prefix .now) (a .inner .now) _ (sym (p .before .before .before .find .ensures) ∙ ap spot (p .before .i .given .1))
-    (sym (c .before .before .find2 .ensures) ∙ ap spot (c .enum-told .given .1)))
+    L.list-unclosed (a .prefix .now) (a .inner .now) _ (sym (p .before .before .before .find-by .ensures) ∙ ap spot (p .before .i .given .1))
+    (sym (c .before .before .find .ensures) ∙ ap spot (c .enum-told .given .1)))
     (λ c. let a = c .before .before .before .before .before .args in
-    L.list-absent (a .prefix .now) (a .inner .now) (sym (c .before .before .find .ensures) ∙ ap spot (c .enum-told2 .given .1))))
+    L.list-absent (a .prefix .now) (a .inner .now) (sym (c .before .before .find-by .ensures) ∙ ap spot (c .enum-told2 .given .1))))

@@ -17,18 +17,18 @@ parse-behind-spec =
     (λ c κs. search needs)
     (λ c. search needs)
     (λ c. let s = c .before .before .before .before .before .before .args .s .now in
-    omega (arith, cut-within (bytes "tensor_view<") s _ (sym (c .before .before .before .find .ensures) ∙ ap spot (c .before .i .given .1))))
+    omega (arith, cut-within (bytes "tensor_view<") s _ (sym (c .before .before .before .find-by .ensures) ∙ ap spot (c .before .i .given .1))))
     (λ c. let s = c .before .before .before .before .before .before .args .s .now in
-    omega (arith, cut-within (bytes "tensor_view<") s _ (sym (c .before .before .before .find .ensures) ∙ ap spot (c .before .i .given .1))))
+    omega (arith, cut-within (bytes "tensor_view<") s _ (sym (c .before .before .before .find-by .ensures) ∙ ap spot (c .before .i .given .1))))
     (λ c. let s = c .before .before .before .before .before .before .args .s .now in
-    omega (arith, cut-within (bytes "tensor_view<") s _ (sym (c .before .before .before .find .ensures) ∙ ap spot (c .before .i .given .1))))
+    omega (arith, cut-within (bytes "tensor_view<") s _ (sym (c .before .before .before .find-by .ensures) ∙ ap spot (c .before .i .given .1))))
     (λ c. search needs)
     (λ c κs. search needs)
     (λ c. search needs)
     (λ c κs. search needs)
     (λ c. let p = c .before .before in
     S.opened-at (p .before .before .before .before .before .before .args .s .now) (bytes "tensor_view<") none
-    _ (sym (p .before .before .before .find .ensures) ∙ ap spot (p .before .i .given .1)) (c .parse-enclosed .ensures))
+    _ (sym (p .before .before .before .find-by .ensures) ∙ ap spot (p .before .i .given .1)) (c .parse-enclosed .ensures))
     (λ c. let p = c .before in
     S.opened-else (p .before .before .before .before .before .args .s .now) (bytes "tensor_view<") none
-    (sym (p .before .before .find .ensures) ∙ ap spot (p .enum-told .given .1)) (c .no-tensor .ensures)))
+    (sym (p .before .before .find-by .ensures) ∙ ap spot (p .enum-told .given .1)) (c .no-tensor .ensures)))

@@ -18,11 +18,11 @@ parse-nested-tensor-view-spec =
     (λ c κs. search needs)
     (λ c. search needs)
     (λ c. let s = c .before .before .before .before .before .before .args .inner .now in
-    omega (arith, cut-within (bytes "tensor_view=!cuda_tile.tensor_view<") s _ (sym (c .before .before .before .find .ensures) ∙ ap spot (c .before .i .given .1))))
+    omega (arith, cut-within (bytes "tensor_view=!cuda_tile.tensor_view<") s _ (sym (c .before .before .before .find-by .ensures) ∙ ap spot (c .before .i .given .1))))
     (λ c. let s = c .before .before .before .before .before .before .args .inner .now in
-    omega (arith, cut-within (bytes "tensor_view=!cuda_tile.tensor_view<") s _ (sym (c .before .before .before .find .ensures) ∙ ap spot (c .before .i .given .1))))
+    omega (arith, cut-within (bytes "tensor_view=!cuda_tile.tensor_view<") s _ (sym (c .before .before .before .find-by .ensures) ∙ ap spot (c .before .i .given .1))))
     (λ c. let s = c .before .before .before .before .before .before .args .inner .now in
-    omega (arith, cut-within (bytes "tensor_view=!cuda_tile.tensor_view<") s _ (sym (c .before .before .before .find .ensures) ∙ ap spot (c .before .i .given .1))))
+    omega (arith, cut-within (bytes "tensor_view=!cuda_tile.tensor_view<") s _ (sym (c .before .before .before .find-by .ensures) ∙ ap spot (c .before .i .given .1))))
     (λ c. search needs)
     (λ c κs. search needs)
     (λ c. search needs)
@@ -30,11 +30,11 @@ parse-nested-tensor-view-spec =
     (λ c κs. search needs)
     (λ c. search needs)
     (λ c. let s = c .before .before .before .before .before .before .before .before .before .before .args .inner .now in
-    omega (arith, cut-within (bytes "!cuda_tile.tensor_view<") s _ (sym (c .before .before .before .find2 .ensures) ∙ ap spot (c .before .i2 .given .1))))
+    omega (arith, cut-within (bytes "!cuda_tile.tensor_view<") s _ (sym (c .before .before .before .find .ensures) ∙ ap spot (c .before .i2 .given .1))))
     (λ c. let s = c .before .before .before .before .before .before .before .before .before .before .args .inner .now in
-    omega (arith, cut-within (bytes "!cuda_tile.tensor_view<") s _ (sym (c .before .before .before .find2 .ensures) ∙ ap spot (c .before .i2 .given .1))))
+    omega (arith, cut-within (bytes "!cuda_tile.tensor_view<") s _ (sym (c .before .before .before .find .ensures) ∙ ap spot (c .before .i2 .given .1))))
     (λ c. let s = c .before .before .before .before .before .before .before .before .before .before .args .inner .now in
-    omega (arith, cut-within (bytes "!cuda_tile.tensor_view<") s _ (sym (c .before .before .before .find2 .ensures) ∙ ap spot (c .before .i2 .given .1))))
+    omega (arith, cut-within (bytes "!cuda_tile.tensor_view<") s _ (sym (c .before .before .before .find .ensures) ∙ ap spot (c .before .i2 .given .1))))
     (λ c. search needs)
     (λ c κs. search needs)
     (λ c. search needs)
@@ -43,10 +43,10 @@ parse-nested-tensor-view-spec =
     (λ c. search needs)
     (λ c κs. search needs)
     (λ c. let p = c .before .before in let a = p .before .before .before .before .before .before .args in
-    S.opened-named (a .inner .now) (drop (a .behind) (a .inner .now)) _ (sym (p .before .before .before .find .ensures) ∙ ap spot (p .before .i .given .1)) (c .parse-enclosed .ensures))
+    S.opened-named (a .inner .now) (drop (a .behind) (a .inner .now)) _ (sym (p .before .before .before .find-by .ensures) ∙ ap spot (p .before .i .given .1)) (c .parse-enclosed .ensures))
     (λ c. let d = c .before .before in let p = d .before .before .before .before .before in let a = p .before .before .before .before .before .args in
-    S.opened-marked (a .inner .now) (drop (a .behind) (a .inner .now)) (sym (p .before .before .find .ensures) ∙ ap spot (p .enum-told .given .1))
-    _ (sym (d .before .before .before .find2 .ensures) ∙ ap spot (d .before .i2 .given .1)) (c .parse-enclosed2 .ensures))
+    S.opened-marked (a .inner .now) (drop (a .behind) (a .inner .now)) (sym (p .before .before .find-by .ensures) ∙ ap spot (p .enum-told .given .1))
+    _ (sym (d .before .before .before .find .ensures) ∙ ap spot (d .before .i2 .given .1)) (c .parse-enclosed2 .ensures))
     (λ c. let d = c .before .before in let p = d .before .before .before .before in let a = p .before .before .before .before .before .args in
-    S.opened-behind (a .inner .now) (drop (a .behind) (a .inner .now)) (sym (p .before .before .find .ensures) ∙ ap spot (p .enum-told .given .1))
-    _ (rest (a .inner .now) (a .behind)) (sym (d .before .before .find2 .ensures) ∙ ap spot (d .enum-told2 .given .1)) (c .parse-behind .ensures)))
+    S.opened-behind (a .inner .now) (drop (a .behind) (a .inner .now)) (sym (p .before .before .find-by .ensures) ∙ ap spot (p .enum-told .given .1))
+    _ (rest (a .inner .now) (a .behind)) (sym (d .before .before .find .ensures) ∙ ap spot (d .enum-told2 .given .1)) (c .parse-behind .ensures)))

@@ -17,11 +17,11 @@ parse-sparse-spec =
     (λ c κs. search needs)
     (λ c. search needs)
     (λ c. let s = c .before .before .before .before .before .before .args .inner .now in
-    omega (arith, cut-within (bytes "sparse_dim=") s _ (sym (c .before .before .before .find .ensures) ∙ ap spot (c .before .i .given .1))))
+    omega (arith, cut-within (bytes "sparse_dim=") s _ (sym (c .before .before .before .find-by .ensures) ∙ ap spot (c .before .i .given .1))))
     (λ c. let s = c .before .before .before .before .before .before .args .inner .now in
-    omega (arith, cut-within (bytes "sparse_dim=") s _ (sym (c .before .before .before .find .ensures) ∙ ap spot (c .before .i .given .1))))
+    omega (arith, cut-within (bytes "sparse_dim=") s _ (sym (c .before .before .before .find-by .ensures) ∙ ap spot (c .before .i .given .1))))
     (λ c. let s = c .before .before .before .before .before .before .args .inner .now in
-    omega (arith, cut-within (bytes "sparse_dim=") s _ (sym (c .before .before .before .find .ensures) ∙ ap spot (c .before .i .given .1))))
+    omega (arith, cut-within (bytes "sparse_dim=") s _ (sym (c .before .before .before .find-by .ensures) ∙ ap spot (c .before .i .given .1))))
     (λ c. search needs)
     (λ c κs. search needs)
     (λ c. L.until-part (eqb 44) _ (c .before .until .ensures))
@@ -31,7 +31,7 @@ parse-sparse-spec =
     (λ c. search needs)
     (λ c κs. search needs)
     (λ c. let p = c .before .before .before .before .before .before in
-    L.sparse-read (p .before .before .before .before .before .before .args .inner .now) _ (sym (p .before .before .before .find .ensures) ∙ ap spot (p .before .i .given .1))
+    L.sparse-read (p .before .before .before .before .before .before .args .inner .now) _ (sym (p .before .before .before .find-by .ensures) ∙ ap spot (p .before .i .given .1))
     _ refl _ _ (c .before .before .before .before .until .ensures) (c .before .before .until2 .ensures) (c .parse-one .ensures))
     (λ c. let s = c .before .before .before .before .before .before .args .inner .now in
-    L.sparse-absent s (sym (c .before .before .before .find .ensures) ∙ ap spot (c .before .enum-told .given .1)) (c .zero .ensures)))
+    L.sparse-absent s (sym (c .before .before .before .find-by .ensures) ∙ ap spot (c .before .enum-told .given .1)) (c .zero .ensures)))

@@ -18,11 +18,11 @@ parse-view-tile-shape-spec =
     (λ c κs. search needs)
     (λ c. search needs)
     (λ c. let s = c .before .before .before .before .before .before .args .inner .now in
-    omega (arith, cut-within (bytes "tile=(") s _ (sym (c .before .before .before .find .ensures) ∙ ap spot (c .before .i .given .1))))
+    omega (arith, cut-within (bytes "tile=(") s _ (sym (c .before .before .before .find-by .ensures) ∙ ap spot (c .before .i .given .1))))
     (λ c. let s = c .before .before .before .before .before .before .args .inner .now in
-    omega (arith, cut-within (bytes "tile=(") s _ (sym (c .before .before .before .find .ensures) ∙ ap spot (c .before .i .given .1))))
+    omega (arith, cut-within (bytes "tile=(") s _ (sym (c .before .before .before .find-by .ensures) ∙ ap spot (c .before .i .given .1))))
     (λ c. let s = c .before .before .before .before .before .before .args .inner .now in
-    omega (arith, cut-within (bytes "tile=(") s _ (sym (c .before .before .before .find .ensures) ∙ ap spot (c .before .i .given .1))))
+    omega (arith, cut-within (bytes "tile=(") s _ (sym (c .before .before .before .find-by .ensures) ∙ ap spot (c .before .i .given .1))))
     (λ c. search needs)
     (λ c. search needs)
     (λ c κs. search needs)
@@ -30,33 +30,33 @@ parse-view-tile-shape-spec =
     (λ c. let p = c .before .before .before .before .before .before in
     omega (
       arith,
-      L.next-within (bytes "tile=(") (p .before .before .before .before .before .before .args .inner .now) _ (sym (p .before .before .before .find .ensures) ∙ ap spot (p .before .i .given .1))
-          (bytes ")") _ (sym (c .before .before .before .find2 .ensures) ∙ ap spot (c .before .n .given .1)),
+      L.next-within (bytes "tile=(") (p .before .before .before .before .before .before .args .inner .now) _ (sym (p .before .before .before .find-by .ensures) ∙ ap spot (p .before .i .given .1))
+          (bytes ")") _ (sym (c .before .before .before .find .ensures) ∙ ap spot (c .before .n .given .1)),
     ))
     (λ c. search needs)
     (λ c. search needs)
     (λ c. let p = c .before .before .before .before .before .before in
     omega (
       arith,
-      L.next-within (bytes "tile=(") (p .before .before .before .before .before .before .args .inner .now) _ (sym (p .before .before .before .find .ensures) ∙ ap spot (p .before .i .given .1))
-          (bytes ")") _ (sym (c .before .before .before .find2 .ensures) ∙ ap spot (c .before .n .given .1)),
+      L.next-within (bytes "tile=(") (p .before .before .before .before .before .before .args .inner .now) _ (sym (p .before .before .before .find-by .ensures) ∙ ap spot (p .before .i .given .1))
+          (bytes ")") _ (sym (c .before .before .before .find .ensures) ∙ ap spot (c .before .n .given .1)),
     ))
     (λ c κs. simp (length-take, length-drop) (omega arith))
     (λ c. let d = c .before .before in let p = d .before .before .before .before .before .before in
     omega (
       arith,
-      L.next-within (bytes "tile=(") (p .before .before .before .before .before .before .args .inner .now) _ (sym (p .before .before .before .find .ensures) ∙ ap spot (p .before .i .given .1))
-          (bytes ")") _ (sym (d .before .before .before .find2 .ensures) ∙ ap spot (d .before .n .given .1)),
+      L.next-within (bytes "tile=(") (p .before .before .before .before .before .before .args .inner .now) _ (sym (p .before .before .before .find-by .ensures) ∙ ap spot (p .before .i .given .1))
+          (bytes ")") _ (sym (d .before .before .before .find .ensures) ∙ ap spot (d .before .n .given .1)),
     ))
     (λ c. search needs)
     (λ c κs. search needs)
     (λ c. search needs)
     (λ c κs. search needs)
     (λ c. let d = c .before .before in let p = d .before .before .before .before .before .before in
-    S.tile-closed (p .before .before .before .before .before .before .args .inner .now) _ (sym (p .before .before .before .find .ensures) ∙ ap spot (p .before .i .given .1))
-    _ (sym (d .before .before .before .find2 .ensures) ∙ ap spot (d .before .n .given .1)) _ (c .tile-entries .ensures))
+    S.tile-closed (p .before .before .before .before .before .before .args .inner .now) _ (sym (p .before .before .before .find-by .ensures) ∙ ap spot (p .before .i .given .1))
+    _ (sym (d .before .before .before .find .ensures) ∙ ap spot (d .before .n .given .1)) _ (c .tile-entries .ensures))
     (λ c. let d = c .before in let p = d .before .before .before .before .before in
-    S.tile-unclosed (p .before .before .before .before .before .before .args .inner .now) _ (sym (p .before .before .before .find .ensures) ∙ ap spot (p .before .i .given .1))
-    (sym (d .before .before .find2 .ensures) ∙ ap spot (d .enum-told .given .1)) _ (c .no-tile .ensures))
+    S.tile-unclosed (p .before .before .before .before .before .before .args .inner .now) _ (sym (p .before .before .before .find-by .ensures) ∙ ap spot (p .before .i .given .1))
+    (sym (d .before .before .find .ensures) ∙ ap spot (d .enum-told .given .1)) _ (c .no-tile .ensures))
     (λ c. let s = c .before .before .before .before .before .before .args .inner .now in
-    S.tile-absent s (sym (c .before .before .before .find .ensures) ∙ ap spot (c .before .enum-told2 .given .1)) _ (c .no-tile2 .ensures)))
+    S.tile-absent s (sym (c .before .before .before .find-by .ensures) ∙ ap spot (c .before .enum-told2 .given .1)) _ (c .no-tile2 .ensures)))
