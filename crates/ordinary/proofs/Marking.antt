@@ -71,12 +71,6 @@ module _ (s t u : Text) (q : u ≡ trim s) (e : Rest u t) where
   pub shorter : occurs mark u ≡ true → length t < length s
   shorter h = rw (with-mark h) (removed-less s (rw q at h))
 
-  without-mark : occurs mark u ≡ false → t ≡ trim s
-  without-mark h = e ∙ rw h q
-
-  pub no-longer : occurs mark u ≡ false → length t ≤ length s
-  no-longer h = rw (without-mark h) (trim-within s)
-
   pub one-pass : {x y : Option Shown} → occurs mark u ≡ true → x ≡ each (shown 8) (passes (suc (length t)) t) → y ≡ each attributed x
       → y ≡ each (shown 8) (passes (suc (length s)) s)
   one-pass {x} {y} h p r =
@@ -86,7 +80,8 @@ module _ (s t u : Text) (q : u ≡ trim s) (e : Rest u t) where
       r ∙ ap (each attributed) (p ∙ ap (each (shown 8)) f) ∙ attributed-each (passes (length s) (remove mark (trim s)))
       ∙ ap (each (shown 8)) (sym (marked (unmarked (trim s)) (passes (length s) (remove mark (trim s))) (cut mark (trim s)) (rw q at h)))
 
-  pub last-pass : {x : Option Shown} → occurs mark u ≡ false → x ≡ each (shown 8) (unmarked t) → x ≡ each (shown 8) (passes (suc (length s)) s)
+module _ (s u : Text) (q : u ≡ trim s) where
+  pub last-pass : {x : Option Shown} → occurs mark u ≡ false → x ≡ each (shown 8) (unmarked u) → x ≡ each (shown 8) (passes (suc (length s)) s)
   last-pass h p =
-      p ∙ ap (λ (t : Text). each (shown 8) (unmarked t)) (without-mark h)
+      p ∙ ap (λ (t : Text). each (shown 8) (unmarked t)) q
       ∙ ap (each (shown 8)) (sym (unmarked-by (unmarked (trim s)) (passes (length s) (remove mark (trim s))) (cut mark (trim s)) (rw q at h)))

@@ -152,14 +152,13 @@ fn parse_marked(text: &[u8]) -> Parsed
     requires { ⌜ length (now text) ≤ 1024 ⌝ }
     ensures { λ r. ⌜ said r ≡ each (shown 8) (passes (suc (length (now (text .entry)))) (now (text .entry))) ⌝ }
 {
-    let mut room = [0u8; 1024];
     let s = lexis::trim(text);
-    let marked = has_mark(s);
-    let rest = to_read(s, &mut room, marked);
-    if marked {
+    if has_mark(s) {
+        let mut room = [0u8; 1024];
+        let rest = to_read(s, &mut room, true);
         with_pointer_attribute(parse_marked(rest))
     } else {
-        parse_unmarked(rest)
+        parse_unmarked(s)
     }
 }
 

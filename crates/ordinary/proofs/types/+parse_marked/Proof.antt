@@ -57,17 +57,16 @@ pub +parse-marked-spec : {M : Type 1} → statement M
     (λ c κs. search needs)
     (λ c κs. search needs)
     (λ c. search needs)
-    (λ c κs. let p = c .before .before in let q = p .before .before in
-    (omega (arith, ap length (p .trim .ensures), trim-within (q .args .text .now), q .pre .1), c .before .has-mark .ensures))
-    (λ c κs. let r = c .before in let p = r .before .before .before in let q = p .before .before in
-    let k = L.shorter (q .args .text .now) _ _ (p .trim .ensures) (r .to-read .ensures) (sym (r .before .before .has-mark .ensures) ∙ c .if1 .taken) in
+    (λ c κs. let h = c .before .before in let p = h .before in let q = p .before .before in
+    (omega (arith, ap length (p .trim .ensures), trim-within (q .args .text .now), q .pre .1), sym (c .before .if1 .taken) ∙ h .has-mark .ensures))
+    (λ c κs. let h = c .before .before .before in let p = h .before in let q = p .before .before in
+    let k = L.shorter (q .args .text .now) _ _ (p .trim .ensures) (c .to-read .ensures) (sym (h .has-mark .ensures) ∙ c .before .before .if1 .taken) in
     (omega (arith, k, q .pre .0), omega (arith, k, q .pre .1)))
     (λ c κs. search needs)
-    (λ c κs. let r = c .before in let p = r .before .before .before in let q = p .before .before in
-    omega (arith, L.no-longer (q .args .text .now) _ _ (p .trim .ensures) (r .to-read .ensures) (sym (r .before .before .has-mark .ensures) ∙ c .if1 .left), q .pre .1))
-    (λ c. let r = c .before .before .before .before in let p = r .before .before .before in let q = p .before .before in
-    L.one-pass (q .args .text .now) _ _ (p .trim .ensures) (r .to-read .ensures) (sym (r .before .before .has-mark .ensures) ∙ c .before .before .before .if1 .taken)
+    (λ c κs. let p = c .before .before in let q = p .before .before in
+    omega (arith, ap length (p .trim .ensures), trim-within (q .args .text .now), q .pre .1))
+    (λ c. let r = c .before .before .before in let h = r .before .before .before in let p = h .before in let q = p .before .before in
+    L.one-pass (q .args .text .now) _ _ (p .trim .ensures) (r .to-read .ensures) (sym (h .has-mark .ensures) ∙ r .before .before .if1 .taken)
     (c .before .before .parse-marked .ensures) (c .with-pointer-attribute .ensures))
-    (λ c. let r = c .before .before .before in let p = r .before .before .before in let q = p .before .before in
-    L.last-pass (q .args .text .now) _ _ (p .trim .ensures) (r .to-read .ensures) (sym (r .before .before .has-mark .ensures) ∙ c .before .before .if1 .left)
-    (c .before .parse-unmarked .ensures))
+    (λ c. let h = c .before .before in let p = h .before in let q = p .before .before in
+    L.last-pass (q .args .text .now) _ (p .trim .ensures) (sym (h .has-mark .ensures) ∙ c .before .if1 .left) (c .parse-unmarked .ensures))
