@@ -19,7 +19,6 @@ use meaning::Kind;
 use meaning::Reading;
 use meaning::Record;
 use meaning::Refusal;
-use meaning::first_high;
 use meaning::refuse;
 ghost use Prim.Native.Nat.{suc, _≤_};
 ghost use mathlib.Core.Path.{_≡_};
@@ -192,15 +191,15 @@ fn judge(p: Parsed) -> Reading
     }
 }
 
-// What `Type::parse` returns, with the default counts; or the refusal 1, 2, 3 or 4, the first that applies.
+// What `Type::parse` returns, with the default counts; or the refusal 1, 2, 3 or 4, the first that applies. A strict form is read
+// in one walk; any other text as `Type::parse` reads it. Refusals 1 and 2 are those of the strict reader.
 pub fn parse(text: &[u8]) -> Reading
     ensures { λ r. ⌜ r ≡ ordinary 8 1024 (now (text .entry)) ⌝ }
 {
-    if 1024 < text.len() {
-        return refuse(Refusal::TooLong, 0);
+    let r = strict::parse_strict(text);
+    let refusal = r.refusal;
+    if refusal.number() < 3 {
+        return r;
     }
-    match first_high(text) {
-        Found::At(place) => refuse(Refusal::HighByte, place),
-        Found::Nowhere => judge(parse_marked(text)),
-    }
+    judge(parse_marked(text))
 }

@@ -21,9 +21,11 @@ abbrev μ : tie.MeasureT-loop
 holds : tie.Need-loop-holds Inv μ
 holds c =
     let a = c .before .before .before .before .args in
-    let e = c .seek .ensures in
-    (omega arith, L.unshifted (place (cut (a .what .now) (a .text .now)))
-    ∙ P.sought (a .what .now) (a .text .now) (a .k) (c .before .before .before .before .pre) 0 (a .k) _ (zero-add (a .k)) e)
+    let e = c .seek .ensures in (
+      omega arith,
+      L.unshifted (place (cut (a .what .now) (a .text .now)))
+          ∙ P.sought (a .what .now) (a .text .now) (a .k) (c .before .before .before .before .pre) 0 (a .k) _ (zero-add (a .k)) e,
+    )
 
 again : tie.Need-loop-again Inv μ
 again c =

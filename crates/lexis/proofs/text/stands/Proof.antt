@@ -31,7 +31,9 @@ stands-spec =
     sym (l .inv .1 ∙ L.differs (a .what .now) (a .text .now) (l .j) (a .at + l .j) (search needs) (search needs) (c .if2 .taken)))
     (λ c. search needs)
     (λ c. search needs)
-    (λ c. let l = c .before .before .before .before .loop in let a = c .before .before .before .before .before .before .args in
-    (search needs, l .inv .1 ∙ L.agrees (a .what .now) (a .text .now) (l .j) (a .at + l .j) (search needs) (search needs) (c .if2 .left)
-    ∙ ap (λ (n : ℕ). begins (drop (l .j + 1) (a .what .now)) (drop n (a .text .now))) {x = a .at + l .j + 1} {y = a .at + (l .j + 1)} (omega arith)))
+    (λ c. let l = c .before .before .before .before .loop in let a = c .before .before .before .before .before .before .args in (
+      search needs,
+      l .inv .1 ∙ L.agrees (a .what .now) (a .text .now) (l .j) (a .at + l .j) (search needs) (search needs) (c .if2 .left)
+          ∙ ap (λ (n : ℕ). begins (drop (l .j + 1) (a .what .now)) (drop n (a .text .now))) {x = a .at + l .j + 1} {y = a .at + (l .j + 1)} (omega arith),
+    ))
     (λ c. let l = c .before .loop in sym (l .inv .1 ∙ L.all-passed _ _ (l .j) (search needs))))
