@@ -8,5 +8,6 @@ pub mod Sign
 pub mod Signed
 pub mod Splitting
 pub mod Naming
+pub mod Classes
 pub mod Examples
 pub mod Unique

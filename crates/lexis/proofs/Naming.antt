@@ -1,77 +1,152 @@
--- Laws of names: the entries of a table one at a time, and that the place in the table of names is what the definition names.
-use mathlib.Core.Path.{_≡_, refl, ap, _∙_}
-use mathlib.Core.Bool.{Bool, true, false}
+-- Laws of names: the entries of a table one at a time, and that what a text names stands among the names of its own length.
+use mathlib.Core.Path.{_≡_, refl, sym, ap, _∙_}
+use mathlib.Core.Bool.{Bool, true, false, _&&_, _||_, false≢true}
 use mathlib.Core.List.{List, [], _∷_, map}
-use mathlib.Core.Option.{none, some}
-use Prim.Native.Nat.{ℕ, suc, _+_, _-_, _≤_, _<_}
-use native.Mathlib.Numerals.{add-one}
+use mathlib.Core.Option.{Option, none, some}
+use Prim.Native.Nat.{ℕ, zero, suc, _+_, _≤_, _<_}
+use native.Mathlib.Nat.{le-refl}
 use native.Mathlib.Omega.{arith}
 use lib.Dec.{eqb}
-use lib.ListN.{length, take, drop, getD, length-drop}
-use Rattle.lexis.specs.Text.{Text, bytes, if_then_else_, same, until, split, trim}
+use lib.ListN.{length, take, drop, getD, length-drop, drop-of-length-le}
+use lib.Seq.{drop-drop}
+use borrow.Author.Tests.{eqb-true, eqb-false, eq-eqb, ne-eqb}
+use Rattle.lexis.specs.Text.{Text, bytes, if_then_else_, same, begins, trim}
 use Rattle.lexis.specs.Names.{Name, names, named-in, scalar-name}
-use Rattle.lexis.specs.Parts.{which}
+use Rattle.lexis.specs.Parts.{rows-of, rows, which}
 use Rattle.lexis.specs.declared.scalar.Scalar.{Scalar}
-use Rattle.lexis.proofs.Lists.{rest}
-use Rattle.lexis.proofs.Seeking.{until-take}
-use Rattle.lexis.proofs.Splitting.{split-more, split-last, split-some}
+use Rattle.lexis.proofs.Lists.{view}
+use Rattle.lexis.proofs.Seeking.{unlike}
 
--- ── the entries of a table, which commas part ──
+-- ── the entries of a table, side by side ──
 
-module _ (s t : List ℕ) (n k : ℕ) (e : k ≡ length (until (eqb 44) t)) where
-  pub hit : same (take k t) s ≡ true → n + which s (split 44 t) ≡ n
-  hit h = let g : same (until (eqb 44) t) s ≡ true = rw (← until-take (eqb 44) t, ← e) h in rw (split-some 44 t, g) (omega arith)
+enough : (n k m : ℕ) (s : Text) → 0 < n → length s ≤ k → length s ≤ m → rows-of k n s ≡ rows-of m n s
+enough n zero zero s p h l = refl
+enough n zero (suc m) [] p h l = refl
+enough n zero (suc m) (b ∷ s) p h l = let f : ⊥ = omega arith in absurd f
+enough n (suc k) zero [] p h l = refl
+enough n (suc k) zero (b ∷ s) p h l = let f : ⊥ = omega arith in absurd f
+enough n (suc k) (suc m) [] p h l = refl
+enough n (suc k) (suc m) (b ∷ s) p h l =
+    ap (λ (es : List Text). take n (b ∷ s) ∷ es) (enough n k m (drop n (b ∷ s)) p (rw length-drop (omega arith)) (rw length-drop (omega arith)))
 
-  pub miss : k < length t → same (take k t) s ≡ false
-      → n + which s (split 44 t) ≡ (n + 1) + which s (split 44 (take (length t - (k + 1)) (drop (k + 1) t)))
-  miss l h =
-      let g : same (until (eqb 44) t) s ≡ false = rw (← until-take (eqb 44) t, ← e) h in
-      rw (rest t (k + 1), add-one k, e, split-more 44 t (rw e at l), g) (omega arith)
+first-row : (n b : ℕ) (s : Text) → 0 < n → rows n (b ∷ s) ≡ take n (b ∷ s) ∷ rows n (drop n (b ∷ s))
+first-row n b s p =
+    ap
+    (λ (es : List Text). take n (b ∷ s) ∷ es)
+    (enough n (length s) (length (drop n (b ∷ s))) (drop n (b ∷ s)) p (rw length-drop (omega arith)) (le-refl (length (drop n (b ∷ s)))))
 
-  pub gone : length t ≤ k → same (take k t) s ≡ false → n + which s (split 44 t) ≡ n + 1
-  gone l h =
-      let g : same (until (eqb 44) t) s ≡ false = rw (← until-take (eqb 44) t, ← e) h in
-      rw (split-last 44 t (rw e at l), g) (omega arith)
+turned : (x y : ℕ) (d : Bool) → eqb x y ≡ d → eqb y x ≡ d
+turned x y true e = eq-eqb y x (sym (eqb-true x y e))
+turned x y false e = ne-eqb y x (λ k. eqb-false x y e (sym k))
 
--- ── the table of names ──
+-- a text that begins with s begins with a row that is s
+row : (s t : Text) → begins s t ≡ same (take (length s) t) s
+row [] t = refl
+row (c ∷ s) [] = refl
+row (c ∷ s) (b ∷ t) = λ i. turned b c (eqb b c) refl i && row s t i
+
+module _ (s t : Text) (n at : ℕ) (p : 0 < length s) where
+  next : at < length t → rows (length s) (drop at t) ≡ take (length s) (drop at t) ∷ rows (length s) (drop (at + length s) t)
+  next h = rw (view t at h) (first-row (length s) (getD t at 0) (drop (at + 1) t) p ∙ rw (← view t at h, drop-drop (length s) at t) refl)
+
+  pub hit : at < length t → begins s (drop at t) ≡ true → n + which s (rows (length s) (drop at t)) ≡ n
+  hit h e = rw (next h, sym (row s (drop at t)) ∙ e) (omega arith)
+
+  pub miss : at < length t → begins s (drop at t) ≡ false
+      → n + which s (rows (length s) (drop at t)) ≡ (n + 1) + which s (rows (length s) (drop (at + length s) t))
+  miss h e = rw (next h, sym (row s (drop at t)) ∙ e) (omega arith)
+
+  pub gone : length t ≤ at → n + which s (rows (length s) (drop at t)) ≡ n
+  gone h = rw (drop-of-length-le t h) (omega arith)
+
+-- ── names ──
 
 abbrev spellings : List Name → List Text
 spellings ns = map (λ (n : Name). bytes (n .spelling)) ns
 
-abbrev scalars : List Name → List Scalar
-scalars ns = map (λ (n : Name). n .scalar) ns
+-- the names of k bytes
+abbrev pub of-length : ℕ → List Name → List Name
+of-length k [] = []
+of-length k (n ∷ ns) = if eqb (length (bytes (n .spelling))) k then n ∷ of-length k ns else of-length k ns
 
--- the place of s among the spellings is that of the scalar it names
-known : (ns : List Name) (s : Text) (d : Scalar) → which s (spellings ns) < length ns → some (getD (scalars ns) (which s (spellings ns)) d) ≡ named-in ns s
-known [] s d h = let f : ⊥ = omega arith in absurd f
-known (n ∷ ns) s d h = by (same (bytes (n .spelling)) s) (known ns s d) h
+-- the scalar at a place in a list of names
+abbrev pub at-place : List Name → ℕ → Option Scalar
+at-place [] k = none
+at-place (n ∷ ns) zero = some (n .scalar)
+at-place (n ∷ ns) (suc k) = at-place ns k
+
+past : (ns : List Name) (k : ℕ) → length ns ≤ k → at-place ns k ≡ none
+past [] k h = refl
+past (n ∷ ns) zero h = let f : ⊥ = omega arith in absurd f
+past (n ∷ ns) (suc k) h = past ns k (omega arith)
+
+found : (ns : List Name) (s : Text) → at-place ns (which s (spellings ns)) ≡ named-in ns s
+found [] s = refl
+found (n ∷ ns) s = by (same (bytes (n .spelling)) s) (found ns s)
   where
-    by : (b : Bool) → (which s (spellings ns) < length ns → some (getD (scalars ns) (which s (spellings ns)) d) ≡ named-in ns s)
-        → (if b then 0 else suc (which s (spellings ns))) < suc (length ns)
-        → some (getD (scalars (n ∷ ns)) (if b then 0 else suc (which s (spellings ns))) d) ≡ if b then some (n .scalar) else named-in ns s
-    by true e h = refl
-    by false e h = e (omega arith)
+    by : (b : Bool) → at-place ns (which s (spellings ns)) ≡ named-in ns s
+        → at-place (n ∷ ns) (if b then 0 else suc (which s (spellings ns))) ≡ if b then some (n .scalar) else named-in ns s
+    by true e = refl
+    by false e = e
 
-unknown : (ns : List Name) (s : Text) → length ns ≤ which s (spellings ns) → none ≡ named-in ns s
-unknown [] s h = refl
-unknown (n ∷ ns) s h = by (same (bytes (n .spelling)) s) (unknown ns s) h
+-- names of another length are not the text
+own-length : (ns : List Name) (s : Text) → named-in (of-length (length s) ns) s ≡ named-in ns s
+own-length [] s = refl
+own-length (n ∷ ns) s =
+    by
+    (eqb (length (bytes (n .spelling))) (length s))
+    (λ e. unlike (bytes (n .spelling)) s (eqb-false (length (bytes (n .spelling))) (length s) e))
+    (own-length ns s)
   where
-    by : (b : Bool) → (length ns ≤ which s (spellings ns) → none ≡ named-in ns s)
-        → suc (length ns) ≤ (if b then 0 else suc (which s (spellings ns)))
-        → none ≡ if b then some (n .scalar) else named-in ns s
-    by true e h = let f : ⊥ = omega arith in absurd f
-    by false e h = e (omega arith)
+    by : (b : Bool) → (b ≡ false → same (bytes (n .spelling)) s ≡ false)
+        → named-in (of-length (length s) ns) s ≡ named-in ns s
+        → named-in (if b then n ∷ of-length (length s) ns else of-length (length s) ns) s ≡ if same (bytes (n .spelling)) s then some (n .scalar) else named-in ns s
+    by true f e = rw e
+    by false f e = rw (f refl) e
 
--- the code's table
-abbrev table : Text
-table = bytes "i1,i4,i8,i16,i32,i64,f16,bf16,f32,tf32,f64,f8E4M3FN,f8e4m3fn,f8E5M2,f8e5m2,f8E8M0FNU,f8e8m0fnu,f4E2M1FN,f4e2m1fn,f8E5M3FNU,f8e5m3fnu,bool"
+-- the search for s, of k bytes, in a table t of the names of k bytes answered n
+module _ (k : ℕ) (s t : Text) (q : rows k t ≡ spellings (of-length k names)) (l : length s ≡ k) {n : ℕ} (e : n ≡ which s (rows (length s) t)) where
+  place : at-place (of-length k names) n ≡ named-in names s
+  place =
+      ap (at-place (of-length k names)) (e ∙ ap (λ (j : ℕ). which s (rows j t)) l ∙ ap (which s) q)
+      ∙ found (of-length k names) s
+      ∙ ap (λ (j : ℕ). named-in (of-length j names) s) (sym l)
+      ∙ own-length names s
 
--- the search for s, which is a text t trimmed, answered n
-module _ (s t : Text) {n : ℕ} (e : n ≡ which s (split 44 table)) (q : s ≡ trim t) where
-  pub named : (d : Scalar) → n < 22 → some (getD (scalars names) n d) ≡ scalar-name t
-  unfolding scalar-name
-  named d h = ap (λ (k : ℕ). some (getD (scalars names) k d)) e ∙ known names s d (rw e at h) ∙ ap (named-in names) q
+  pub named : (m : ℕ) → n ≡ m → at-place (of-length k names) m ≡ named-in names s
+  named m h = ap (at-place (of-length k names)) (sym h) ∙ place
 
-  pub unnamed : 22 ≤ n → none ≡ scalar-name t
-  unfolding scalar-name
-  unnamed h = unknown names s (rw e at h) ∙ ap (named-in names) q
+  -- two names of one scalar, side by side
+  pub either : (m : ℕ) → m ≤ n → n < m + 2 → at-place (of-length k names) m ≡ at-place (of-length k names) (m + 1) → at-place (of-length k names) m ≡ named-in names s
+  either m h g r = by (eqb n m) refl
+    where
+      by : (b : Bool) → eqb n m ≡ b → at-place (of-length k names) m ≡ named-in names s
+      by true d = named m (eqb-true n m d)
+      by false d = let f : n ≡ m → ⊥ = eqb-false n m d in r ∙ named (m + 1) (omega arith)
+
+  pub unnamed : length (of-length k names) ≤ n → none ≡ named-in names s
+  unnamed h = sym (past (of-length k names) n h) ∙ place
+
+-- where the names' lengths pass a test that the text's does not
+none-such : (p : ℕ → Bool) (ns : List Name) (s : Text) → map (λ (n : Name). p (length (bytes (n .spelling)))) ns ≡ map (λ (n : Name). true) ns
+    → p (length s) ≡ false → none ≡ named-in ns s
+none-such p [] s e h = refl
+none-such p (n ∷ ns) s e h =
+    let a : p (length (bytes (n .spelling))) ≡ true = cc in
+    let b : map (λ (n : Name). p (length (bytes (n .spelling)))) ns ≡ map (λ (n : Name). true) ns = cc in
+    rw (unlike (bytes (n .spelling)) s (λ k. false≢true (sym h ∙ ap p (sym k) ∙ a))) (none-such p ns s b h)
+
+-- a text of a length that no name has
+pub no-length : (s : Text) → (length s ≡ 2 → ⊥) → (length s ≡ 3 → ⊥) → (length s ≡ 4 → ⊥) → (length s ≡ 6 → ⊥) → (length s ≡ 8 → ⊥) → (length s ≡ 9 → ⊥) → none ≡ named-in names s
+no-length s a b c d e f =
+    none-such
+    (λ (l : ℕ). eqb l 2 || eqb l 3 || eqb l 4 || eqb l 6 || eqb l 8 || eqb l 9)
+    names
+    s
+    refl
+    (rw (ne-eqb (length s) 2 a, ne-eqb (length s) 3 b, ne-eqb (length s) 4 c, ne-eqb (length s) 6 d, ne-eqb (length s) 8 e, ne-eqb (length s) 9 f))
+
+-- the contract's words
+pub trimmed : (s t : Text) → s ≡ trim t → named-in names s ≡ scalar-name t
+unfolding scalar-name
+trimmed s t q = ap (named-in names) q

@@ -1,10 +1,11 @@
 -- What private helpers answer, for their own contracts: no public contract cites these.
-use Prim.Native.Nat.{ℕ, suc, _+_}
+use Prim.Native.Nat.{ℕ, zero, suc, _+_}
 use Prim.Native.Char.{code}
 use mathlib.Core.Bool.{Bool, false, _||_}
 use mathlib.Core.List.{List, [], _∷_}
 use mathlib.Core.Option.{Option, none, some}
 use lib.Dec.{leb, eqb}
+use lib.ListN.{length, take, drop}
 use Rattle.lexis.specs.Text.{Text, if_then_else_, same}
 use Rattle.lexis.specs.Numeral.{number}
 use Rattle.lexis.specs.declared.numeral.Magnitude.{Magnitude}
@@ -37,6 +38,15 @@ sized most (b ∷ s) =
 abbrev pub which : Text → List Text → ℕ
 which s [] = 0
 which s (e ∷ es) = if same e s then 0 else suc (which s es)
+
+-- a text by its parts of n bytes, of which there are at most k
+abbrev pub rows-of : ℕ → ℕ → Text → List Text
+rows-of zero n s = []
+rows-of (suc k) n [] = []
+rows-of (suc k) n (b ∷ s) = take n (b ∷ s) ∷ rows-of k n (drop n (b ∷ s))
+
+abbrev pub rows : ℕ → Text → List Text
+rows n s = rows-of (length s) n s
 
 -- some byte passes the test
 abbrev pub some-of : (ℕ → Bool) → Text → Bool

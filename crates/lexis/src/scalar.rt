@@ -1,12 +1,12 @@
 // Scalar types and their names (01, module 2).
 ghost use mathlib.Core.Path.{_≡_};
 ghost use mathlib.Core.Bool.{not};
-ghost use Rattle.lexis.specs.Names.{scalar-name, said, byte-width, integer, bit-width};
-ghost use Rattle.lexis.specs.Parts.{which};
-ghost use Rattle.lexis.specs.Text.{split};
-use super::text::same;
+ghost use Prim.Native.Nat.{_<_};
+ghost use lib.ListN.{length};
+ghost use Rattle.lexis.specs.Names.{scalar-name, named-in, names, said, byte-width, integer, bit-width};
+ghost use Rattle.lexis.specs.Parts.{rows, which};
+use super::text::stands;
 use super::text::trim;
-use super::text::until;
 
 // Scalar (element) types: integers and floats.
 pub enum Scalar {
@@ -40,22 +40,17 @@ impl Scalar {
         ensures { λ r. ⌜ r ≡ byte-width self ⌝ }
     {
         match self {
-            Scalar::I1 => 1,
-            Scalar::I4 => 1,
-            Scalar::I8 => 1,
-            Scalar::I16 => 2,
-            Scalar::I32 => 4,
-            Scalar::I64 => 8,
-            Scalar::F16 => 2,
-            Scalar::BF16 => 2,
-            Scalar::F32 => 4,
-            Scalar::TF32 => 4,
-            Scalar::F64 => 8,
-            Scalar::F8E4M3FN => 1,
-            Scalar::F8E5M2 => 1,
-            Scalar::F8E8M0FNU => 1,
-            Scalar::F4E2M1FN => 1,
-            Scalar::F8E5M3FNU => 1,
+            Scalar::I1
+            | Scalar::I4
+            | Scalar::I8
+            | Scalar::F8E4M3FN
+            | Scalar::F8E5M2
+            | Scalar::F8E8M0FNU
+            | Scalar::F4E2M1FN
+            | Scalar::F8E5M3FNU => 1,
+            Scalar::I16 | Scalar::F16 | Scalar::BF16 => 2,
+            Scalar::I32 | Scalar::F32 | Scalar::TF32 => 4,
+            Scalar::I64 | Scalar::F64 => 8,
         }
     }
 
@@ -64,22 +59,17 @@ impl Scalar {
         ensures { λ r. ⌜ r ≡ integer self ⌝ }
     {
         match self {
-            Scalar::I1 => true,
-            Scalar::I4 => true,
-            Scalar::I8 => true,
-            Scalar::I16 => true,
-            Scalar::I32 => true,
-            Scalar::I64 => true,
-            Scalar::F16 => false,
-            Scalar::BF16 => false,
-            Scalar::F32 => false,
-            Scalar::TF32 => false,
-            Scalar::F64 => false,
-            Scalar::F8E4M3FN => false,
-            Scalar::F8E5M2 => false,
-            Scalar::F8E8M0FNU => false,
-            Scalar::F4E2M1FN => false,
-            Scalar::F8E5M3FNU => false,
+            Scalar::I1 | Scalar::I4 | Scalar::I8 | Scalar::I16 | Scalar::I32 | Scalar::I64 => true,
+            Scalar::F16
+            | Scalar::BF16
+            | Scalar::F32
+            | Scalar::TF32
+            | Scalar::F64
+            | Scalar::F8E4M3FN
+            | Scalar::F8E5M2
+            | Scalar::F8E8M0FNU
+            | Scalar::F4E2M1FN
+            | Scalar::F8E5M3FNU => false,
         }
     }
 
@@ -96,79 +86,131 @@ impl Scalar {
     {
         match self {
             Scalar::I1 => 1,
-            Scalar::I4 => 4,
-            Scalar::I8 => 8,
-            Scalar::I16 => 16,
-            Scalar::I32 => 32,
-            Scalar::I64 => 64,
-            Scalar::F16 => 16,
-            Scalar::BF16 => 16,
-            Scalar::F32 => 32,
-            Scalar::TF32 => 32,
-            Scalar::F64 => 64,
-            Scalar::F8E4M3FN => 8,
-            Scalar::F8E5M2 => 8,
-            Scalar::F8E8M0FNU => 8,
-            Scalar::F4E2M1FN => 4,
-            Scalar::F8E5M3FNU => 8,
+            Scalar::I4 | Scalar::F4E2M1FN => 4,
+            Scalar::I8
+            | Scalar::F8E4M3FN
+            | Scalar::F8E5M2
+            | Scalar::F8E8M0FNU
+            | Scalar::F8E5M3FNU => 8,
+            Scalar::I16 | Scalar::F16 | Scalar::BF16 => 16,
+            Scalar::I32 | Scalar::F32 | Scalar::TF32 => 32,
+            Scalar::I64 | Scalar::F64 => 64,
         }
     }
 }
 
-// The place of `name` among the entries of `table`, which commas part, or how many they are.
+// The place of `name` among the entries of `table`, which stand side by side and are as long as it, or how many they are.
 fn which(name: &[u8], table: &[u8]) -> usize
-    ensures { λ r. ⌜ r ≡ which (now (name .entry)) (split 44 (now (table .entry))) ⌝ }
+    requires { ⌜ 0 < length (now name) ⌝ }
+    ensures { λ r. ⌜ r ≡ which (now (name .entry)) (rows (length (now (name .entry))) (now (table .entry))) ⌝ }
 {
-    let mut t = table;
     let mut n = 0;
-    loop {
-        let k = until(t, 44);
-        if same(&t[..k], name) {
+    let mut at = 0;
+    while at < table.len() {
+        if stands(table, name, at) {
             return n;
         }
         n += 1;
-        if t.len() <= k {
-            return n;
-        }
-        t = &t[k + 1..];
+        at += name.len();
     }
+    n
+}
+
+// What a name of two bytes says.
+fn of_two(name: &[u8]) -> Named
+    requires { ⌜ length (now name) ≡ 2 ⌝ }
+    ensures { λ r. ⌜ said r ≡ named-in names (now (name .entry)) ⌝ }
+{
+    let s = match which(name, b"i1i4i8") {
+        0 => Scalar::I1,
+        1 => Scalar::I4,
+        2 => Scalar::I8,
+        _ => return Named::Unknown,
+    };
+    Named::Is(s)
+}
+
+// Of three bytes.
+fn of_three(name: &[u8]) -> Named
+    requires { ⌜ length (now name) ≡ 3 ⌝ }
+    ensures { λ r. ⌜ said r ≡ named-in names (now (name .entry)) ⌝ }
+{
+    let s = match which(name, b"i16i32i64f16f32f64") {
+        0 => Scalar::I16,
+        1 => Scalar::I32,
+        2 => Scalar::I64,
+        3 => Scalar::F16,
+        4 => Scalar::F32,
+        5 => Scalar::F64,
+        _ => return Named::Unknown,
+    };
+    Named::Is(s)
+}
+
+// Of four bytes.
+fn of_four(name: &[u8]) -> Named
+    requires { ⌜ length (now name) ≡ 4 ⌝ }
+    ensures { λ r. ⌜ said r ≡ named-in names (now (name .entry)) ⌝ }
+{
+    let s = match which(name, b"bf16tf32bool") {
+        0 => Scalar::BF16,
+        1 => Scalar::TF32,
+        2 => Scalar::I1,
+        _ => return Named::Unknown,
+    };
+    Named::Is(s)
+}
+
+// Of six bytes.
+fn of_six(name: &[u8]) -> Named
+    requires { ⌜ length (now name) ≡ 6 ⌝ }
+    ensures { λ r. ⌜ said r ≡ named-in names (now (name .entry)) ⌝ }
+{
+    let s = match which(name, b"f8E5M2f8e5m2") {
+        0 | 1 => Scalar::F8E5M2,
+        _ => return Named::Unknown,
+    };
+    Named::Is(s)
+}
+
+// Of eight bytes.
+fn of_eight(name: &[u8]) -> Named
+    requires { ⌜ length (now name) ≡ 8 ⌝ }
+    ensures { λ r. ⌜ said r ≡ named-in names (now (name .entry)) ⌝ }
+{
+    let s = match which(name, b"f8E4M3FNf8e4m3fnf4E2M1FNf4e2m1fn") {
+        0 | 1 => Scalar::F8E4M3FN,
+        2 | 3 => Scalar::F4E2M1FN,
+        _ => return Named::Unknown,
+    };
+    Named::Is(s)
+}
+
+// Of nine bytes.
+fn of_nine(name: &[u8]) -> Named
+    requires { ⌜ length (now name) ≡ 9 ⌝ }
+    ensures { λ r. ⌜ said r ≡ named-in names (now (name .entry)) ⌝ }
+{
+    let s = match which(name, b"f8E8M0FNUf8e8m0fnuf8E5M3FNUf8e5m3fnu") {
+        0 | 1 => Scalar::F8E8M0FNU,
+        2 | 3 => Scalar::F8E5M3FNU,
+        _ => return Named::Unknown,
+    };
+    Named::Is(s)
 }
 
 // The scalar that a text names, white space around it aside: 22 spellings, the five narrow floats in two each, and `bool` for I1.
 pub fn parse_scalar(text: &[u8]) -> Named
     ensures { λ r. ⌜ said r ≡ scalar-name (now (text .entry)) ⌝ }
 {
-    let scalars = [
-        Scalar::I1,
-        Scalar::I4,
-        Scalar::I8,
-        Scalar::I16,
-        Scalar::I32,
-        Scalar::I64,
-        Scalar::F16,
-        Scalar::BF16,
-        Scalar::F32,
-        Scalar::TF32,
-        Scalar::F64,
-        Scalar::F8E4M3FN,
-        Scalar::F8E4M3FN,
-        Scalar::F8E5M2,
-        Scalar::F8E5M2,
-        Scalar::F8E8M0FNU,
-        Scalar::F8E8M0FNU,
-        Scalar::F4E2M1FN,
-        Scalar::F4E2M1FN,
-        Scalar::F8E5M3FNU,
-        Scalar::F8E5M3FNU,
-        Scalar::I1,
-    ];
-    let n = which(
-        trim(text),
-        b"i1,i4,i8,i16,i32,i64,f16,bf16,f32,tf32,f64,f8E4M3FN,f8e4m3fn,f8E5M2,f8e5m2,f8E8M0FNU,f8e8m0fnu,f4E2M1FN,f4e2m1fn,f8E5M3FNU,f8e5m3fnu,bool",
-    );
-    if n < scalars.len() {
-        let s = scalars[n];
-        return Named::Is(s);
+    let name = trim(text);
+    match name.len() {
+        2 => of_two(name),
+        3 => of_three(name),
+        4 => of_four(name),
+        6 => of_six(name),
+        8 => of_eight(name),
+        9 => of_nine(name),
+        _ => Named::Unknown,
     }
-    Named::Unknown
 }

@@ -1,6 +1,6 @@
--- `parse_scalar` meets its contract: the place of the name among the spellings is that of its scalar among the scalars.
+-- `parse_scalar` meets its contract: what the trimmed text names stands among the names of its own length.
 use Rattle.lexis.proofs.Naming as L
-use Rattle.lexis.specs.declared.scalar.Scalar.the-variants.{I1}
+use mathlib.Core.Path.{_∙_}
 use borrow.Author.Needs.{needs}
 use Rattle.lexis.proofs.scalar.parse_scalar.Statement.{statement}
 use Rattle.lexis.proofs.scalar.parse_scalar.Tie as tie
@@ -10,8 +10,17 @@ parse-scalar-spec =
     tie.close
     (tie.spec
     (λ c κs. search needs)
-    (λ c. search needs)
     (λ c κs. search needs)
-    (λ c. search needs)
-    (λ c. L.named _ _ (c .before .before .which .ensures) (c .before .before .before .before .trim .ensures) I1 (search needs))
-    (λ c. L.unnamed _ _ (c .before .which .ensures) (c .before .before .before .trim .ensures) (search needs)))
+    (λ c κs. search needs)
+    (λ c κs. search needs)
+    (λ c κs. search needs)
+    (λ c κs. search needs)
+    (λ c κs. search needs)
+    (λ c. c .of-two .ensures ∙ L.trimmed _ _ (c .before .before .trim .ensures))
+    (λ c. c .of-three .ensures ∙ L.trimmed _ _ (c .before .before .trim .ensures))
+    (λ c. c .of-four .ensures ∙ L.trimmed _ _ (c .before .before .trim .ensures))
+    (λ c. c .of-six .ensures ∙ L.trimmed _ _ (c .before .before .trim .ensures))
+    (λ c. c .of-eight .ensures ∙ L.trimmed _ _ (c .before .before .trim .ensures))
+    (λ c. c .of-nine .ensures ∙ L.trimmed _ _ (c .before .before .trim .ensures))
+    (λ c. let r = c .match .rest in
+    L.no-length (c .before .trim .result .now) (r .0 .0 .0 .0 .0 .1) (r .0 .0 .0 .0 .1) (r .0 .0 .0 .1) (r .0 .0 .1) (r .0 .1) (r .1) ∙ L.trimmed _ _ (c .before .trim .ensures)))
