@@ -141,27 +141,11 @@ fn is_zero32(z: i32) -> bool
     z == 0
 }
 
+// I1 alone has one bit.
 fn is_i1(e: Scalar) -> bool
     ensures { λ r. ⌜ r ≡ is-i1 e ⌝ }
 {
-    match e {
-        Scalar::I1 => true,
-        Scalar::I4 => false,
-        Scalar::I8 => false,
-        Scalar::I16 => false,
-        Scalar::I32 => false,
-        Scalar::I64 => false,
-        Scalar::F16 => false,
-        Scalar::BF16 => false,
-        Scalar::F32 => false,
-        Scalar::TF32 => false,
-        Scalar::F64 => false,
-        Scalar::F8E4M3FN => false,
-        Scalar::F8E5M2 => false,
-        Scalar::F8E8M0FNU => false,
-        Scalar::F4E2M1FN => false,
-        Scalar::F8E5M3FNU => false,
-    }
+    e.bits() == 1
 }
 
 fn is_absent(p: Padding) -> bool
