@@ -29,10 +29,11 @@ which-spec =
     (λ c. search needs)
     (λ c. search needs)
     (λ c. let a = c .before .before .before .before .before .before .args in
-    let l = c .before .before .before .loop in
-    (search needs,
-    l .inv .1
-    ∙ L.miss (a .name .now) (a .table .now) (l .n) (l .at) (c .before .before .before .before .before .before .pre) (search needs) (sym (c .before .stands .ensures) ∙ c .if1 .left)))
+    let l = c .before .before .before .loop in (
+      search needs,
+      l .inv .1
+          ∙ L.miss (a .name .now) (a .table .now) (l .n) (l .at) (c .before .before .before .before .before .before .pre) (search needs) (sym (c .before .stands .ensures) ∙ c .if1 .left),
+    ))
     (λ c. let a = c .before .before .before .before .args in
     let l = c .before .loop in
     sym (l .inv .1 ∙ L.gone (a .name .now) (a .table .now) (l .n) (l .at) (c .before .before .before .before .pre) (search needs))))
