@@ -11,8 +11,6 @@ use Rattle.lexis.specs.Text.{bytes}
 use Rattle.grammar.specs.Tests.{is-true, T-not-eq}
 use Rattle.grammar.specs.Piece.{Answer, got, stuck}
 use Rattle.grammar.specs.Join.{mapped, after}
-use Rattle.strict.specs.declared.number.Step.{Step}
-use Rattle.strict.specs.declared.number.Step.the-variants.{Past, Short}
 use Rattle.strict.specs.Cursor.{valued}
 use Rattle.strict.specs.Words.{next, choose}
 use Rattle.strict.specs.Lists.{Row, nothing}
@@ -25,18 +23,17 @@ pub lt-false : (k n : ℕ) → n ≤ k → ltb k n ≡ false
 lt-false k n h = T-not-eq (ltb k n) (not-T (ltb k n) (λ t. let p = ltb→lt k n t in omega arith))
 
 -- nothing more is read
-pub ends-here : {A : Type 0} (s : List ℕ) (a : A) (e : Step) → next s (λ r. got a r) e ≡ valued s a e
-ends-here s a (Past p) = refl
-ends-here s a (Short p) = refl
+pub ends-here : {A : Type 0} (s : List ℕ) (a : A) (e : ℕ) → next s (λ r. got a r) e ≡ valued s a e
+ends-here s a e = refl
 
 -- one of two readers
-pub next-yes : {A : Type 0} (s : List ℕ) (b : Bool) (f g : List ℕ → Answer A) (e : Step) → b ≡ true → next s (λ r. cond b (f r) (g r)) e ≡ next s f e
+pub next-yes : {A : Type 0} (s : List ℕ) (b : Bool) (f g : List ℕ → Answer A) (e : ℕ) → b ≡ true → next s (λ r. cond b (f r) (g r)) e ≡ next s f e
 next-yes s b f g e h = ap (λ (k : Bool). next s (λ r. cond k (f r) (g r)) e) h
 
-pub next-no : {A : Type 0} (s : List ℕ) (b : Bool) (f g : List ℕ → Answer A) (e : Step) → b ≡ false → next s (λ r. cond b (f r) (g r)) e ≡ next s g e
+pub next-no : {A : Type 0} (s : List ℕ) (b : Bool) (f g : List ℕ → Answer A) (e : ℕ) → b ≡ false → next s (λ r. cond b (f r) (g r)) e ≡ next s g e
 next-no s b f g e h = ap (λ (k : Bool). next s (λ r. cond k (f r) (g r)) e) h
 
-module _ (s : List ℕ) (e : Step) where
+module _ (s : List ℕ) (e : ℕ) where
   pub core-is : next s I.core e ≡ next s (λ t. after I.core-of (choose I.kerns t)) e
   unfolding I.core
   core-is = refl

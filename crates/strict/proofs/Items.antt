@@ -3,7 +3,8 @@ use Prim.Native.Nat.{ℕ, zero, suc, _+_, _-_, _^_}
 use mathlib.Core.Bool.{Bool, true, false, cond, _||_}
 use mathlib.Core.List.{List, [], _∷_, _++_}
 use mathlib.Core.Path.{_≡_, refl, sym, ap, _∙_}
-use lib.Dec.{T, eqb, eqb→eq}
+use borrow.Author.Tests.{leb-true, leb-false}
+use lib.Dec.{leb, T, eqb, eqb→eq}
 use lib.IntN.{ℤ, pos, negsuc}
 use Rattle.lexis.specs.Text.{bytes}
 use Rattle.meaning.specs.Decimal.{decimal, in32, in64, dim, size}
@@ -187,3 +188,10 @@ module _ (s : List ℕ) (i : ℕ) where
 
   pub tail-comma : (x : Bool) → x ≡ true → i < length s → (getD s i 0 ≡ 120 → ⊥) → tail32 x (drop i s) ≡ commas32 (drop i s)
   tail-comma x e h n = ap (λ (k : Bool). tail32 k (drop i s)) e ∙ ap (tail32 true) (view s i h) ∙ on-c (getD s i 0) (drop (i + 1) s) n ∙ ap commas32 (sym (view s i h))
+
+  pub tail-other : (x : Bool) → x ≡ true → (getD s i 0 ≡ 120 → ⊥) → tail32 x (drop i s) ≡ commas32 (drop i s)
+  tail-other x e n = by (leb (length s) i) refl
+    where
+      by : (k : Bool) → leb (length s) i ≡ k → tail32 x (drop i s) ≡ commas32 (drop i s)
+      by true h = tail-end x e (leb-true (length s) i h)
+      by false h = tail-comma x e (leb-false (length s) i h) n

@@ -1,11 +1,11 @@
 -- Laws of the answer: lists as rows, the record and the judgement of what was read, and the refusals in their order.
-use Prim.Native.Nat.{ℕ, zero, suc, _+_, _≤_, _<_}
+use Prim.Native.Nat.{ℕ, zero, suc, _+_, _-_, _≤_, _<_}
 use native.Mathlib.Omega.{arith}
-use mathlib.Core.Bool.{Bool, true, false, _&&_}
+use mathlib.Core.Bool.{Bool, true, false, cond, _&&_}
 use mathlib.Core.List.{List, [], _∷_, _++_, append-assoc}
 use mathlib.Core.Option.{none, some}
 use mathlib.Core.Path.{_≡_, refl, sym, ap, subst, _∙_}
-use borrow.Author.Tests.{le-leb, lt-leb}
+use borrow.Author.Tests.{le-leb, lt-leb, leb-true}
 use lib.Dec.{leb}
 use lib.IntN.{ℤ}
 use lib.ListN.{length, drop, getD, set, length-append, drop-of-length-le}
@@ -23,8 +23,6 @@ use Rattle.grammar.specs.Piece.{Answer, got, stuck}
 use Rattle.grammar.specs.Join.{mapped}
 use Rattle.grammar.specs.Whole as G
 use Rattle.grammar.proofs.Answer.{judge, answer, answer-ascii, answer-right}
-use Rattle.strict.specs.declared.number.Step.{Step}
-use Rattle.strict.specs.declared.number.Step.the-variants.{Past, Short}
 use Rattle.strict.specs.Cursor.{valued}
 use Rattle.strict.specs.Lists.{Row, nothing, pushes}
 use Rattle.strict.specs.Whole as W
@@ -127,19 +125,23 @@ module _ (e : W.Entire) where
       → P.record-of (made k z p) ≡ P.record-of (P.said e)
   laid-is f g h = λ i. P.record-of (made (f i) (g i) (h i))
 
--- up to a place
-module _ (s : Text) (e : W.Entire) {d : Step} (p : ℕ) where
-  pub short : d ≡ Short p → refused 8 NotStrict 0 ≡ P.judged (mapped P.said (valued s e d))
-  short k = sym (ap (λ (x : Step). P.judged (mapped P.said (valued s e x))) k)
+-- up to its end
+module _ (s : Text) (e : W.Entire) (d : ℕ) where
+  pub other : (d ≡ length s → ⊥) → refused 8 NotStrict 0 ≡ P.judged (mapped P.said (valued s e d))
+  other n = by (leb d (length s)) (leb-true d (length s))
+    where
+      by : (k : Bool) → (k ≡ true → d ≤ length s) → refused 8 NotStrict 0 ≡ P.judged (mapped P.said (cond k (got e (drop d s)) (stuck (drop (d - (length s + 1)) s))))
+      by true f = let h : d < length s = (let g = f refl in omega arith) in rw (view s d h)
+      by false f = refl
 
-  pub followed : d ≡ Past p → p < length s → refused 8 NotStrict 0 ≡ P.judged (mapped P.said (valued s e d))
-  followed k h = rw (k, view s p h)
+  le-of : d ≡ length s → length s ≤ d
+  le-of k = omega arith
 
-  pub too-many : d ≡ Past p → length s ≤ p → P.small (P.said e) ≡ false → refused 8 TooMany 0 ≡ P.judged (mapped P.said (valued s e d))
-  too-many k h n = rw (k, drop-of-length-le s h, n)
+  pub too-many : d ≡ length s → P.small (P.said e) ≡ false → refused 8 TooMany 0 ≡ P.judged (mapped P.said (valued s e d))
+  too-many k n = rw (le-leb d (length s) (omega arith), drop-of-length-le s (le-of k), n)
 
-  pub whole : d ≡ Past p → length s ≤ p → P.small (P.said e) ≡ true → P.accepted (P.said e) ≡ P.judged (mapped P.said (valued s e d))
-  whole k h n = rw (k, drop-of-length-le s h, n)
+  pub whole : d ≡ length s → P.small (P.said e) ≡ true → P.accepted (P.said e) ≡ P.judged (mapped P.said (valued s e d))
+  whole k n = rw (le-leb d (length s) (omega arith), drop-of-length-le s (le-of k), n)
 
 -- ── the answer ──
 
@@ -162,8 +164,5 @@ module _ (s : Text) {r : Reading} where
   pub high-at : (i : ℕ) → length s ≤ 1024 → high-from 0 s ≡ some i → r ≡ refused 8 HighByte i → r ≡ answer 8 1024 s
   high-at i h k e = ascii h (e ∙ sym (ap (answer-ascii 8 s) k))
 
-  pub read-on : Bridge → {w : Answer W.Entire} → length s ≤ 1024 → high-from 0 s ≡ none → W.whole s ≡ w
-      → r ≡ P.judged (mapped P.said w) → r ≡ answer 8 1024 s
-  read-on bridge h k q e =
-      ascii h (e ∙ sym (ap (λ (x : Answer W.Entire). P.judged (mapped P.said x)) q)
-      ∙ sym (ap P.judged (bridge s)) ∙ judged-is (G.read s) ∙ sym (ap (answer-ascii 8 s) k))
+  pub read-on : Bridge → length s ≤ 1024 → high-from 0 s ≡ none → r ≡ P.judged (mapped P.said (W.whole s)) → r ≡ answer 8 1024 s
+  read-on bridge h k e = ascii h (e ∙ sym (ap P.judged (bridge s)) ∙ judged-is (G.read s) ∙ sym (ap (answer-ascii 8 s) k))

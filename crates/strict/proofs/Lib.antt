@@ -1,5 +1,7 @@
 -- The laws that the proofs of the functions cite.
+pub mod Cursors
 pub mod Numbers
+pub mod Tree
 pub mod Picking
 pub mod Rows
 pub mod Items

@@ -1,13 +1,15 @@
 -- A list of items at a place of a text: it ends there, goes on with an item, or is stuck in one. For any items and any separator.
-use Prim.Native.Nat.{ℕ, _+_, _≤_, _<_}
+use Prim.Native.Nat.{ℕ, _+_, _-_, _≤_, _<_}
 use mathlib.Core.List.{List, [], _∷_}
 use mathlib.Core.Path.{_≡_, refl, sym, ap, _∙_}
 use lib.IntN.{ℤ}
-use lib.ListN.{drop, length, getD, drop-of-length-le}
+use lib.ListN.{drop, length, getD, set, drop-of-length-le, length-set}
 use Rattle.grammar.specs.Piece.{Answer, got, stuck}
 use Rattle.grammar.specs.Join.{mapped, after}
 use Rattle.strict.specs.Rows.{more}
-use Rattle.strict.specs.Lists.{Row, pushed, pushes}
+use Rattle.strict.specs.Lists.{Row, row, pushed, pushes}
+use Rattle.strict.specs.Cursor.{valued}
+use Rattle.strict.proofs.Cursors.{valued-past, valued-off}
 use Rattle.strict.proofs.Numbers.{view}
 use Rattle.strict.proofs.Items.{goes}
 
@@ -34,3 +36,17 @@ module _ (f : List ℕ → Answer (List ℤ)) (s : List ℕ) (i : ℕ) where
 
     pub goes-off : (q : Answer ℤ) (p : ℕ) → f (drop i s) ≡ goes f q → q ≡ stuck (drop p s) → mapped (pushes l) (f (drop i s)) ≡ stuck (drop p s)
     goes-off q p e h = ap (mapped (pushes l)) (e ∙ ap (goes f) h)
+
+    -- past the item, or stuck in it
+    pub item-on : (q : Answer ℤ) (v : ℤ) (e : ℕ) → e ≤ length s → f (drop i s) ≡ goes f q → q ≡ valued s v e → mapped (pushes l) (f (drop i s)) ≡ mapped (pushes (pushed l v)) (f (drop e s))
+    item-on q v e h k m = goes-on q v e k (m ∙ valued-past s v e h)
+
+    pub item-off : (q : Answer ℤ) (v : ℤ) (x : Row) (e : ℕ) → length s < e → f (drop i s) ≡ goes f q → q ≡ valued s v e → mapped (pushes l) (f (drop i s)) ≡ valued s x e
+    item-off q v x e h k m = goes-off q (e - (length s + 1)) k (m ∙ valued-off s v e h) ∙ sym (valued-off s x e h)
+
+-- an entry stored
+pub stored : {x : List ℤ} (out : List ℤ) (n : ℕ) {v u : ℤ} → x ≡ set out n v → v ≡ u → row x (n + 1) ≡ pushed (row out n) u
+stored out n e k = ap (λ (z : List ℤ). row z (n + 1)) (e ∙ ap (set out n) k)
+
+pub kept : {x : List ℤ} (out : List ℤ) (n : ℕ) (v : ℤ) → x ≡ set out n v → length x ≡ length out
+kept out n v e = ap length e ∙ length-set out n v

@@ -20,8 +20,6 @@ use Rattle.grammar.specs.Number.{in-nine, nine-in}
 use Rattle.strict.specs.Cursor as C
 use Rattle.grammar.specs.Join.{mapped}
 use lib.IntN.{ℤ, pos, negℤ}
-use Rattle.strict.specs.declared.number.Step.{Step}
-use Rattle.strict.specs.declared.number.Step.the-variants.{Past, Short}
 use lib.IntN.{negsuc}
 
 pub view : (s : List ℕ) (i : ℕ) → i < length s → drop i s ≡ getD s i 0 ∷ drop (i + 1) s
@@ -124,6 +122,9 @@ module _ (s : List ℕ) (i : ℕ) where
   space-off h e = rw (view s i h, ne-eqb 32 (getD s i 0) (λ f. e (sym f)))
 
 -- another value at the same place
-pub mapped-valued : {A B : Type 0} (f : A → B) (s : List ℕ) (a : A) (e : Step) → mapped f (C.valued s a e) ≡ C.valued s (f a) e
-mapped-valued f s a (Past p) = refl
-mapped-valued f s a (Short p) = refl
+pub mapped-valued : {A B : Type 0} (f : A → B) (s : List ℕ) (a : A) (e : ℕ) → mapped f (C.valued s a e) ≡ C.valued s (f a) e
+mapped-valued f s a e = by (leb e (length s))
+  where
+    by : (k : Bool) → mapped f (cond k (got a (drop e s)) (stuck (drop (e - (length s + 1)) s))) ≡ cond k (got (f a) (drop e s)) (stuck (drop (e - (length s + 1)) s))
+    by true = refl
+    by false = refl

@@ -6,14 +6,13 @@ use mathlib.Core.Path.{_≡_, refl, sym, ap, _∙_}
 use lib.Dec.{ltb}
 use lib.IntN.{pos}
 use Rattle.grammar.specs.Join.{mapped, after}
-use Rattle.strict.specs.declared.number.Step.{Step}
 use Rattle.strict.specs.Words.{next, choose}
 use Rattle.strict.specs.Lists.{nothing}
 use Rattle.strict.specs.Inner.{tensor}
 use Rattle.strict.specs.Views as Y
 use Rattle.strict.proofs.Insides.{lt-true, lt-false, next-yes, next-no}
 
-module _ (s : List ℕ) (e : Step) where
+module _ (s : List ℕ) (e : ℕ) where
   pub sight-pad : (k : ℕ) → k < 2 → next s (Y.sight k) e ≡ next s (λ t. after Y.led (choose Y.pads t)) e
   unfolding Y.sight
   sight-pad k h = next-yes s (ltb k 2) (λ t. after Y.led (choose Y.pads t)) (λ t. mapped (Y.seen false 0) (tensor t)) e (lt-true k 2 h)

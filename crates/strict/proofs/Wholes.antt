@@ -7,22 +7,13 @@ use lib.Dec.{ltb}
 use lib.ListN.{length}
 use Rattle.grammar.specs.Piece.{Answer}
 use Rattle.grammar.specs.Join.{after}
-use Rattle.strict.specs.declared.number.Step.{Step}
 use Rattle.strict.specs.declared.whole.Whole.{Whole}
 use Rattle.strict.specs.Cursor.{Told, valued, place}
 use Rattle.strict.specs.Words.{next, choose}
 use Rattle.strict.specs.Whole as M
 use Rattle.strict.proofs.Insides.{lt-true, lt-false, next-yes, next-no}
 
-module _ (s : List ℕ) (at : ℕ) {p : Answer M.Entire} {w : M.Entire} {e : Step} {r : Whole} where
-  pub made-told : M.Made w e r → Told s at p w e → Told s at p (M.entire r) (r .end)
-  made-told m t = record {
-    same = t .same ∙ (λ i. valued s (sym (m .is) i) (sym (m .at) i));
-    inside = subst (λ (x : Step). place x ≤ length s) (sym (m .at)) (t .inside);
-    onward = subst (λ (x : Step). at ≤ place x) (sym (m .at)) (t .onward);
-  }
-
-module _ (s : List ℕ) (e : Step) (k n : ℕ) (f g : List ℕ → Answer M.Entire) where
+module _ (s : List ℕ) (e : ℕ) (k n : ℕ) (f g : List ℕ → Answer M.Entire) where
   pub below : k < n → next s (λ r. cond (ltb k n) (f r) (g r)) e ≡ next s f e
   below h = next-yes s (ltb k n) f g e (lt-true k n h)
 

@@ -3,7 +3,7 @@ use Prim.Native.Nat.{ℕ, zero, suc, _+_, _-_, _*_, _^_, _≤_, _<_}
 use mathlib.Core.Bool.{Bool, true, false, cond}
 use mathlib.Core.List.{List, [], _∷_}
 use mathlib.Core.Path.{_≡_}
-use lib.Dec.{eqb}
+use lib.Dec.{eqb, leb}
 use lib.ListN.{drop, length}
 use lib.IntN.{ℤ, pos, negsuc, negℤ}
 use Rattle.grammar.specs.Piece.{Answer, got, stuck}
@@ -11,23 +11,23 @@ use Rattle.grammar.specs.Join.{mapped}
 use Rattle.grammar.specs.Number as N
 use Rattle.strict.specs.declared.number.Grown.{Grown}
 use Rattle.strict.specs.declared.number.Mag.{Mag}
-use Rattle.strict.specs.declared.number.Step.{Step}
-use Rattle.strict.specs.declared.number.Step.the-variants.{Past, Short}
+
+-- an end is a number: within the text the place where a part ends; past it, stuck at a place
+abbrev pub stuck-at : List ℕ → ℕ → ℕ
+stuck-at s p = length s + 1 + p
 
 -- the value a up to the place, or stuck there
-abbrev pub valued : {A : Type 0} → List ℕ → A → Step → Answer A
-valued s a (Past p) = got a (drop p s)
-valued s a (Short p) = stuck (drop p s)
+abbrev pub valued : {A : Type 0} → List ℕ → A → ℕ → Answer A
+valued s a e = cond (leb e (length s)) (got a (drop e s)) (stuck (drop (e - (length s + 1)) s))
 
-abbrev pub place : Step → ℕ
-place (Past p) = p
-place (Short p) = p
+abbrev pub place : List ℕ → ℕ → ℕ
+place s e = cond (leb e (length s)) e (e - (length s + 1))
 
 -- the answer on the list is what the code's answer says, with a place in the text, not before `at`
-pub record Told {A : Type 0} (s : List ℕ) (at : ℕ) (p : Answer A) (a : A) (e : Step) : Type 0 where
+pub record Told {A : Type 0} (s : List ℕ) (at : ℕ) (p : Answer A) (a : A) (e : ℕ) : Type 0 where
   pub same : p ≡ valued s a e
-  pub inside : place e ≤ length s
-  pub onward : at ≤ place e
+  pub inside : place s e ≤ length s
+  pub onward : at ≤ place s e
 
 pub record Grows (s : List ℕ) (at : ℕ) (p : Answer ℕ) (most : ℕ) (r : Grown) : Type 0 where
   pub onward : at ≤ r .at
@@ -37,8 +37,8 @@ pub record Grows (s : List ℕ) (at : ℕ) (p : Answer ℕ) (most : ℕ) (r : Gr
 
 pub record Mags (s : List ℕ) (at : ℕ) (p : Answer ℕ) (most : ℕ) (r : Mag) : Type 0 where
   pub same : p ≡ valued s (r .value) (r .end)
-  pub inside : place (r .end) ≤ length s
-  pub onward : at ≤ place (r .end)
+  pub inside : place s (r .end) ≤ length s
+  pub onward : at ≤ place s (r .end)
   pub below : r .value ≤ most
 
 abbrev pub minus : ℕ → ℤ

@@ -3,12 +3,14 @@ use Prim.Native.Nat.{ℕ}
 use mathlib.Core.Bool.{Bool, true, false, cond}
 use mathlib.Core.List.{List}
 use lib.Dec.{eqb, ltb}
+use lib.IntN.{ℤ}
 use Rattle.lexis.specs.Text.{bytes}
 use Rattle.grammar.specs.Piece.{Answer, got, stuck}
 use Rattle.grammar.specs.Join.{mapped, after}
-use Rattle.strict.specs.Words.{choose}
+use Rattle.grammar.specs.Table.{Entry}
+use Rattle.strict.specs.Words.{choose, entries, advances}
 use Rattle.strict.specs.Rows.{dims64, list64}
-use Rattle.strict.specs.Lists.{Row, nothing, pushes, row64}
+use Rattle.strict.specs.Lists.{Row, row, nothing, pushes}
 use Rattle.strict.specs.declared.inner.Core.{Core}
 use Rattle.strict.specs.declared.inner.Tile.{Tile}
 use Rattle.strict.specs.declared.inner.Rest.{Rest}
@@ -17,6 +19,10 @@ use Rattle.strict.specs.declared.inner.Tensor.{Tensor}
 -- ── tables ──
 abbrev pub names : List ℕ
 names = bytes "i1|i4|i8|i16|i32|i64|f16|bf16|f32|tf32|f64|f8E4M3FN|f8e4m3fn|f8E5M2|f8e5m2|f8E8M0FNU|f8e8m0fnu|f4E2M1FN|f4e2m1fn|f8E5M3FNU|f8e5m3fnu|bool|"
+
+-- what is left of the names after some bytes
+abbrev pub named : List ℕ → List (Entry ℕ)
+named u = advances u (entries names)
 
 abbrev pub kerns : List ℕ
 kerns = bytes "i1|i4|i8|i16|i32|i64|f16|bf16|f32|tf32|f64|f8E4M3FN|f8e4m3fn|f8E5M2|f8e5m2|f8E8M0FNU|f8e8m0fnu|f4E2M1FN|f4e2m1fn|f8E5M3FNU|f8e5m3fnu|bool|ptr<|!cuda_tile.ptr<|"
@@ -80,8 +86,8 @@ tile-of l c = record { shape = l; core = c }
 unfoldable pub tile : List ℕ → Answer Tiled
 tile t = after (λ l r. mapped (tile-of l) (core r)) (shape t)
 
-abbrev pub tiled : Tile → Tiled
-tiled c = record { shape = row64 (c .shape); core = cored (c .core) }
+abbrev pub tiled : List ℤ → Tile → Tiled
+tiled l c = tile-of (row l (c .rank)) (cored (c .core))
 
 -- ── a tensor view ──
 pub record Rested : Type 0 where
@@ -104,8 +110,8 @@ given k r = listed r
 unfoldable pub rest : ℕ → List ℕ → Answer Rested
 rest n t = cond (eqb n 0) (after begun (choose opened t)) (after given (choose must t))
 
-abbrev pub rested : Rest → Rested
-rested c = record { strides = row64 (c .strides); marked = c .marked }
+abbrev pub rested : List ℤ → Rest → Rested
+rested l c = record { strides = row l (c .len); marked = c .marked }
 
 pub record Tensed : Type 0 where
   pub shape : Row
@@ -118,5 +124,5 @@ tens-of l k r = record { shape = l; word = k; rest = r }
 unfoldable pub tensor : List ℕ → Answer Tensed
 tensor t = after (λ l r. after (λ k x. mapped (tens-of l k) (rest (l .len) x)) (choose names r)) (shape t)
 
-abbrev pub tensed : Tensor → Tensed
-tensed c = record { shape = row64 (c .shape); word = c .word; rest = record { strides = row64 (c .strides); marked = c .marked } }
+abbrev pub tensed : List ℤ → List ℤ → Tensor → Tensed
+tensed l m c = tens-of (row l (c .rank)) (c .word) (record { strides = row m (c .len); marked = c .marked })

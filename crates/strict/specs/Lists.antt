@@ -6,18 +6,13 @@ use lib.IntN.{ℤ, pos}
 use Rattle.grammar.specs.Piece.{Answer}
 use Rattle.grammar.specs.Join.{mapped}
 use Rattle.meaning.specs.Found.{padded}
-use Rattle.strict.specs.declared.list.Row32.{Row32}
-use Rattle.strict.specs.declared.list.Row64.{Row64}
 
 pub record Row : Type 0 where
   pub values : List ℤ
   pub len : ℕ
 
-abbrev pub row32 : Row32 → Row
-row32 l = record { values = l .values; len = l .len }
-
-abbrev pub row64 : Row64 → Row
-row64 l = record { values = l .values; len = l .len }
+abbrev pub row : List ℤ → ℕ → Row
+row l n = record { values = l; len = n }
 
 abbrev pub nothing : Row
 nothing = record { values = padded 8 []; len = 0 }

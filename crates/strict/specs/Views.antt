@@ -1,16 +1,17 @@
 -- What stands in each of the three views, as the code reads it: words by their numbers, lists as rows.
 use Prim.Native.Nat.{ℕ, _^_, _+_}
 use mathlib.Core.Bool.{Bool, true, false, cond}
-use mathlib.Core.List.{List, _++_}
+use mathlib.Core.List.{List, [], _∷_, _++_}
 use lib.Dec.{eqb, ltb}
 use lib.IntN.{ℤ, pos}
 use Rattle.lexis.specs.Text.{bytes}
 use Rattle.grammar.specs.Piece.{Answer, got, stuck}
 use Rattle.grammar.specs.Join.{mapped, after}
 use Rattle.strict.specs.Cursor.{numeral}
+use Rattle.grammar.specs.Table.{Entry, _↝_}
 use Rattle.strict.specs.Words.{choose}
 use Rattle.strict.specs.Rows.{list32}
-use Rattle.strict.specs.Lists.{Row, nothing, pushes, row32}
+use Rattle.strict.specs.Lists.{Row, row, nothing, pushes}
 use Rattle.strict.specs.Inner.{Tensed, tensor, tensed}
 use Rattle.strict.specs.declared.view.Sight.{Sight}
 use Rattle.strict.specs.declared.view.Scene.{Scene}
@@ -36,6 +37,10 @@ walk-mids =
     bytes "],!cuda_tile.tensor_view<|], !cuda_tile.tensor_view<|" ++
     bytes "],tensor_view=!cuda_tile.tensor_view<|], tensor_view=!cuda_tile.tensor_view<|"
 
+-- the beginnings of a tensor view in one of these
+abbrev pub tensors : ℕ → List (Entry ℕ)
+tensors k = (bytes "tensor_view<" ↝ k) ∷ (bytes "!cuda_tile.tensor_view<" ↝ k + 2) ∷ (bytes "tensor_view=!cuda_tile.tensor_view<" ↝ k + 4) ∷ []
+
 abbrev pub maps : List ℕ
 maps = bytes ",dim_map=[|, dim_map=[|"
 
@@ -60,8 +65,8 @@ led p r = after (λ (k : ℕ) x. mapped (seen true p) (tensor x)) (choose leads 
 unfoldable pub sight : ℕ → List ℕ → Answer Seen
 sight k t = cond (ltb k 2) (after led (choose pads t)) (mapped (seen false 0) (tensor t))
 
-abbrev pub sighted : Sight → Seen
-sighted v = record { padded = v .padded; pad = v .pad; tensor = tensed (v .tensor) }
+abbrev pub sighted : List ℤ → List ℤ → Sight → Seen
+sighted l m v = seen (v .padded) (v .pad) (tensed l m (v .tensor))
 
 -- ── a list, and the tensor view ──
 abbrev pub entries : Bool → List ℕ → Answer Row
@@ -80,8 +85,8 @@ stage l v = record { list = l; sight = v }
 unfoldable pub scene : Bool → List ℕ → Answer Staged
 scene b t = after (λ l r. after (λ k x. mapped (stage l) (sight k x)) (mid b r)) (entries b t)
 
-abbrev pub staged : Scene → Staged
-staged v = record { list = row32 (v .list); sight = sighted (v .sight) }
+abbrev pub staged : List ℤ → List ℤ → List ℤ → Scene → Staged
+staged x l m v = stage (row x (v .len)) (sighted l m (v .sight))
 
 -- ── the ends ──
 abbrev pub map-tail : Row → List ℕ → Answer Row
@@ -128,5 +133,6 @@ walk-rest l t = after (λ c r. mapped (λ m. viewed l (c .sight) m (c .list) (po
 unfoldable pub strided : List ℕ → Answer Viewed
 strided t = after (λ l r. after (λ (k : ℕ) x. walk-rest l x) (choose travels r)) (entries true t)
 
-abbrev pub shown : View → Viewed
-shown v = record { tile = row32 (v .tile); sight = sighted (v .sight); map = row32 (v .map); walk = row32 (v .walk); sparse = v .sparse }
+-- with its shape, strides, tile, map and traversal
+abbrev pub shown : List ℤ → List ℤ → List ℤ → List ℤ → List ℤ → View → Viewed
+shown l m x y z v = viewed (row x (v .tile)) (sighted l m (v .sight)) (row y (v .map)) (row z (v .walk)) (v .sparse)

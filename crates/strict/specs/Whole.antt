@@ -1,7 +1,7 @@
 -- A whole strict form, as the code reads it: the first word, by its number, tells the kind and what follows.
-use Prim.Native.Nat.{ℕ}
+use Prim.Native.Nat.{ℕ, _+_}
 use mathlib.Core.Bool.{Bool, true, false, cond}
-use mathlib.Core.List.{List, _++_}
+use mathlib.Core.List.{List, [], _∷_, _++_}
 use mathlib.Core.Path.{_≡_}
 use lib.Dec.{ltb}
 use lib.IntN.{ℤ, pos}
@@ -10,12 +10,13 @@ use Rattle.meaning.specs.declared.Kind.{Kind}
 use Rattle.meaning.specs.declared.Kind.the-variants as K
 use Rattle.grammar.specs.Piece.{Answer, got}
 use Rattle.grammar.specs.Join.{mapped, after}
+use Rattle.grammar.specs.Table.{Entry, _↝_}
 use Rattle.strict.specs.Words.{choose}
-use Rattle.strict.specs.Lists.{Row, nothing, row32, row64}
+use Rattle.strict.specs.Lists.{Row, row, nothing}
 use Rattle.strict.specs.Inner.{Cored, Tiled, Tensed, pointee, close, tile, tensor}
 use Rattle.strict.specs.Views.{Viewed, partition, gather, strided}
-use Rattle.strict.specs.declared.number.Step.{Step}
 use Rattle.strict.specs.declared.whole.Whole.{Whole}
+use Rattle.strict.specs.declared.view.View.{View}
 
 abbrev pub heads : List ℕ
 heads =
@@ -25,6 +26,12 @@ heads =
     bytes "partition_view<tile=(|!cuda_tile.partition_view<tile=(|" ++
     bytes "gather_scatter_view<tile=(|!cuda_tile.gather_scatter_view<tile=(|" ++
     bytes "strided_view<tile=(|!cuda_tile.strided_view<tile=(|"
+
+-- the kinds in one spelling, whose words have every second number
+abbrev pub kinds : ℕ → List (Entry ℕ)
+kinds k =
+    (bytes "token" ↝ k) ∷ (bytes "ptr<" ↝ k + 2) ∷ (bytes "tile<" ↝ k + 4) ∷ (bytes "tensor_view<" ↝ k + 6) ∷
+    (bytes "partition_view<tile=(" ↝ k + 8) ∷ (bytes "gather_scatter_view<tile=(" ↝ k + 10) ∷ (bytes "strided_view<tile=(" ↝ k + 12) ∷ []
 
 -- a type of any rank, with a scalar and a padding by their numbers
 pub record Entire : Type 0 where
@@ -113,23 +120,54 @@ from-head k r = cond (ltb k 22) (got (scalar-of k) r) (from-token k r)
 unfoldable pub whole : List ℕ → Answer Entire
 whole t = after from-head (choose heads t)
 
-abbrev pub entire : Whole → Entire
-entire w = record {
+-- with its shape, strides, tile, map and traversal
+abbrev pub entire : List ℤ → List ℤ → List ℤ → List ℤ → List ℤ → Whole → Entire
+entire l m x y z w = record {
   kind = w .kind;
   pointer = w .pointer;
   word = w .word;
   marked = w .marked;
-  shape = row64 (w .shape);
-  strides = row64 (w .strides);
-  tile = row32 (w .tile);
-  map = row32 (w .map);
-  walk = row32 (w .walk);
+  shape = row l (w .shape);
+  strides = row m (w .strides);
+  tile = row x (w .tile);
+  map = row y (w .map);
+  walk = row z (w .walk);
   sparse = w .sparse;
   padded = w .padded;
   pad = w .pad;
 }
 
--- such a type, up to a place
-pub record Made (w : Entire) (e : Step) (r : Whole) : Type 0 where
-  pub is : entire r ≡ w
-  pub at : r .end ≡ e
+-- the code's types: no view, and a view
+abbrev pub plainly : Kind → Bool → ℕ → Bool → ℕ → ℕ → ℕ → Whole
+plainly k p w m n o e = record {
+  kind = k;
+  pointer = p;
+  word = w;
+  marked = m;
+  shape = n;
+  strides = o;
+  tile = 0;
+  map = 0;
+  walk = 0;
+  sparse = pos 0;
+  padded = false;
+  pad = 0;
+  end = e;
+}
+
+abbrev pub viewing : Kind → View → Whole
+viewing k v = record {
+  kind = k;
+  pointer = false;
+  word = v .sight .tensor .word;
+  marked = v .sight .tensor .marked;
+  shape = v .sight .tensor .rank;
+  strides = v .sight .tensor .len;
+  tile = v .tile;
+  map = v .map;
+  walk = v .walk;
+  sparse = v .sparse;
+  padded = v .sight .padded;
+  pad = v .sight .pad;
+  end = v .end;
+}

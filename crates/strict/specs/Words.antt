@@ -1,21 +1,12 @@
 -- Tables of words as the code has them: each word is ended by the byte 124; a word is known by its number.
-use Prim.Native.Nat.{ℕ, zero, suc, _+_, _≤_}
-use mathlib.Core.Bool.{Bool, true, false, cond}
-use mathlib.Core.List.{List, [], _∷_}
-use mathlib.Core.Option.{Option, none, some}
-use lib.Dec.{eqb}
-use lib.ListN.{drop}
+use Prim.Native.Nat.{ℕ, _+_, _-_}
+use mathlib.Core.Bool.{Bool, true, false, cond, not}
+use mathlib.Core.List.{List, [], _∷_, _++_}
+use lib.Dec.{eqb, leb}
+use lib.ListN.{drop, length}
 use Rattle.grammar.specs.Piece.{Answer, got, stuck}
-use Rattle.grammar.specs.Table.{Entry, _↝_, pick}
-use Rattle.strict.specs.declared.words.Hit.{Hit}
-use Rattle.strict.specs.declared.words.Hit.the-variants.{Word, Nothing}
-use Rattle.strict.specs.declared.number.Step.{Step}
-use Rattle.strict.specs.declared.number.Step.the-variants.{Past, Short}
-
--- how far the first word goes
-abbrev pub stretch : List ℕ → ℕ
-stretch [] = 0
-stretch (c ∷ t) = cond (eqb c 124) 0 (suc (stretch t))
+use Rattle.grammar.specs.Table.{Entry, _↝_, advance, pick}
+use Rattle.strict.specs.declared.words.Picked.{Picked}
 
 abbrev pub grown : ℕ → List (List ℕ) → List (List ℕ)
 grown c [] = (c ∷ []) ∷ []
@@ -32,15 +23,31 @@ numbered k (w ∷ ws) = (w ↝ k) ∷ numbered (k + 1) ws
 abbrev pub entries : List ℕ → List (Entry ℕ)
 entries t = numbered 0 (words t)
 
-abbrev pub hit-said : Hit → Option ℕ
-hit-said (Word k) = some k
-hit-said Nothing = none
-
 -- the number of the word of a table at the head of a text
 unfoldable pub choose : List ℕ → List ℕ → Answer ℕ
 choose table t = pick t (entries table)
 
+-- the same of the entries of a table; what is left of them after some bytes
+unfoldable pub among : List (Entry ℕ) → List ℕ → Answer ℕ
+among es t = pick t es
+
+abbrev pub advances : List ℕ → List (Entry ℕ) → List (Entry ℕ)
+advances [] es = es
+advances (c ∷ u) es = advances u (advance c es)
+
+-- the first bytes of two words differ
+abbrev pub differ : List ℕ → List ℕ → Bool
+differ [] w = false
+differ (x ∷ v) [] = false
+differ (x ∷ v) (y ∷ w) = not (eqb x y)
+
+-- both words of a table, which begin alike
+abbrev pub both : List ℕ → List ℕ → List ℕ → List (Entry ℕ)
+both u v w = (u ++ v ↝ 0) ∷ (u ++ w ↝ 1) ∷ []
+
+abbrev pub ended : ℕ → ℕ → Picked
+ended k e = record { word = k; end = e }
+
 -- a reader from where a part before it ended
-abbrev pub next : {A : Type 0} → List ℕ → (List ℕ → Answer A) → Step → Answer A
-next s f (Past p) = f (drop p s)
-next s f (Short p) = stuck (drop p s)
+abbrev pub next : {A : Type 0} → List ℕ → (List ℕ → Answer A) → ℕ → Answer A
+next s f e = cond (leb e (length s)) (f (drop e s)) (stuck (drop (e - (length s + 1)) s))

@@ -1,6 +1,5 @@
 // The answer of the strict reader: the refusals in their order, or the type.
 use super::judge::judge;
-use super::whole::read_whole;
 use lexis::Found;
 use meaning::Reading;
 use meaning::Refusal;
@@ -17,6 +16,6 @@ pub fn parse_strict(text: &[u8]) -> Reading
     }
     match first_high(text) {
         Found::At(place) => refuse(Refusal::HighByte, place),
-        Found::Nowhere => judge(text, read_whole(text)),
+        Found::Nowhere => judge(text),
     }
 }

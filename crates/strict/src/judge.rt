@@ -1,6 +1,6 @@
 // What was read, laid out as a record and judged: refusal 5, then refusal 4.
-use super::number::Step;
 use super::whole::Whole;
+use super::whole::read_whole;
 use lexis::Scalar;
 use meaning::CAP;
 use meaning::Note;
@@ -10,10 +10,11 @@ use meaning::Record;
 use meaning::Refusal;
 use meaning::refuse;
 ghost use mathlib.Core.Path.{_≡_};
+ghost use mathlib.Core.Bool.{_&&_};
+ghost use lib.Dec.{leb};
 ghost use Rattle.grammar.specs.Join.{mapped};
-ghost use Rattle.strict.specs.Cursor.{valued};
-ghost use Rattle.strict.specs.Whole.{entire};
-ghost use Rattle.strict.specs.Plain.{scalar, padding, said, record-of, small, judged};
+ghost use Rattle.strict.specs.Whole.{entire, whole};
+ghost use Rattle.strict.specs.Plain.{scalar, padding, said, record-of, judged};
 
 // The scalar of each name, by its number.
 fn scalar_of(k: usize) -> Scalar
@@ -71,38 +72,35 @@ fn padding_of(given: bool, k: usize) -> Padding
     Padding::Zero
 }
 
-fn record_of(w: Whole) -> Record
-    ensures { λ r. ⌜ r ≡ record-of (said (entire w)) ⌝ }
+fn record_of(
+    w: Whole,
+    shape: [i64; CAP],
+    strides: [i64; CAP],
+    tile: [i32; CAP],
+    map: [i32; CAP],
+    walk: [i32; CAP],
+) -> Record
+    ensures { λ r. ⌜ r ≡ record-of (said (entire shape strides tile map walk w)) ⌝ }
 {
     let kind = w.kind;
     let element = scalar_of(w.word);
     let padding = padding_of(w.padded, w.pad);
-    let shape = w.shape;
-    let strides = w.strides;
-    let tile = w.tile;
-    let map = w.map;
-    let walk = w.walk;
-    let a = shape.values;
-    let b = strides.values;
-    let c = tile.values;
-    let d = map.values;
-    let e = walk.values;
     let sparse = w.sparse;
     Record {
         kind,
         element,
         pointer: w.pointer,
         attribute: w.marked,
-        shape: a,
-        shape_len: shape.len,
-        strides: b,
-        strides_len: strides.len,
-        tile: c,
-        tile_len: tile.len,
-        map: d,
-        map_len: map.len,
-        traversal: e,
-        traversal_len: walk.len,
+        shape,
+        shape_len: w.shape,
+        strides,
+        strides_len: w.strides,
+        tile,
+        tile_len: w.tile,
+        map,
+        map_len: w.map,
+        traversal: walk,
+        traversal_len: w.walk,
         sparse,
         padding,
     }
@@ -110,46 +108,44 @@ fn record_of(w: Whole) -> Record
 
 // No list has over eight entries.
 fn within(w: Whole) -> bool
-    ensures { λ r. ⌜ r ≡ small (said (entire w)) ⌝ }
+    ensures { λ r. ⌜ r ≡ leb (w .shape) 8 && leb (w .strides) 8 && leb (w .tile) 8 && leb (w .map) 8 && leb (w .walk) 8 ⌝ }
 {
-    let shape = w.shape;
-    let strides = w.strides;
-    let tile = w.tile;
-    let map = w.map;
-    let walk = w.walk;
-    (shape.len <= CAP)
-        & (strides.len <= CAP)
-        & (tile.len <= CAP)
-        & (map.len <= CAP)
-        & (walk.len <= CAP)
+    (w.shape <= CAP) & (w.strides <= CAP) & (w.tile <= CAP) & (w.map <= CAP) & (w.walk <= CAP)
 }
 
 // The type is accepted if it is the whole text.
-pub(crate) fn judge(text: &[u8], w: Whole) -> Reading
-    ensures { λ r. ⌜ r ≡ judged (mapped said (valued (now (text .entry)) (entire w) (w .end))) ⌝ }
+pub(crate) fn judge(text: &[u8]) -> Reading
+    ensures { λ r. ⌜ r ≡ judged (mapped said (whole (now (text .entry)))) ⌝ }
 {
-    let end = w.end;
-    match end {
-        Step::Short(_) => refuse(Refusal::NotStrict, 0),
-        Step::Past(p) => {
-            if p < text.len() {
-                return refuse(Refusal::NotStrict, 0);
-            }
-            if !within(w) {
-                return refuse(Refusal::TooMany, 0);
-            }
-            let value = record_of(w);
-            Reading {
-                refusal: Refusal::Accepted,
-                place: 0,
-                value,
-                note: Note {
-                    a: 0,
-                    b: 0,
-                    c: 0,
-                    d: 0,
-                },
-            }
-        }
+    let mut shape = [0i64; CAP];
+    let mut strides = [0i64; CAP];
+    let mut tile = [0i32; CAP];
+    let mut map = [0i32; CAP];
+    let mut walk = [0i32; CAP];
+    let w = read_whole(
+        text,
+        &mut shape,
+        &mut strides,
+        &mut tile,
+        &mut map,
+        &mut walk,
+    );
+    if w.end != text.len() {
+        return refuse(Refusal::NotStrict, 0);
+    }
+    if !within(w) {
+        return refuse(Refusal::TooMany, 0);
+    }
+    let value = record_of(w, shape, strides, tile, map, walk);
+    Reading {
+        refusal: Refusal::Accepted,
+        place: 0,
+        value,
+        note: Note {
+            a: 0,
+            b: 0,
+            c: 0,
+            d: 0,
+        },
     }
 }

@@ -1,18 +1,21 @@
 // Numerals in decimal, within a limit: digits are taken as long as the value stays within it.
+// Each part answers its value with its end: the place after it; or, where no text can go on, that place and the text's length and 1.
 ghost use mathlib.Core.Path.{_≡_};
 ghost use lib.ListN.{drop, length};
 ghost use Prim.Native.Nat.{_+_, _-_, _≤_, _<_, _^_};
 ghost use lib.IntN.{pos, negℤ};
 ghost use Rattle.grammar.specs.Number.{grow, magnitude};
-ghost use Rattle.strict.specs.Cursor.{Told, Mags, Grows, numeral, dimension, Spaced};
+ghost use Rattle.strict.specs.Cursor.{Told, Mags, Grows, numeral, dimension, Spaced, stuck-at};
 
 // A dimension or stride whose size is not statically known.
 const DYNAMIC: i64 = -9223372036854775808;
 
-// Where the next part begins, or where no text can go on.
-pub(crate) enum Step {
-    Past(usize),
-    Short(usize),
+// Nothing goes on at `at`.
+pub(crate) fn stuck(s: &[u8], at: usize) -> usize
+    requires { ⌜ at ≤ length (now s) ⌝ }
+    ensures { λ r. ⌜ r ≡ stuck-at (now (s .entry)) at ⌝ }
+{
+    s.len() + 1 + at
 }
 
 struct Grown {
@@ -22,17 +25,17 @@ struct Grown {
 
 struct Mag {
     value: u64,
-    end: Step,
+    end: usize,
 }
 
 pub(crate) struct Num32 {
     pub(crate) value: i32,
-    pub(crate) end: Step,
+    pub(crate) end: usize,
 }
 
 pub(crate) struct Num64 {
     pub(crate) value: i64,
-    pub(crate) end: Step,
+    pub(crate) end: usize,
 }
 
 // Digits from `at` on, as long as the value is at most `most`.
@@ -74,26 +77,26 @@ fn magnitude(s: &[u8], at: usize, most: u64) -> Mag
     if s.len() <= at {
         return Mag {
             value: 0,
-            end: Step::Short(at),
+            end: stuck(s, at),
         };
     }
     let b = s[at];
     if b < 49 {
         return Mag {
             value: 0,
-            end: Step::Short(at),
+            end: stuck(s, at),
         };
     }
     if 57 < b {
         return Mag {
             value: 0,
-            end: Step::Short(at),
+            end: stuck(s, at),
         };
     }
     let g = grow(s, at + 1, (b - 48) as u64, most);
     Mag {
         value: g.value,
-        end: Step::Past(g.at),
+        end: g.at,
     }
 }
 
@@ -133,29 +136,27 @@ pub(crate) fn number32(s: &[u8], at: usize) -> Num32
     if s.len() <= at {
         return Num32 {
             value: 0,
-            end: Step::Short(at),
+            end: stuck(s, at),
         };
     }
     let b = s[at];
     if b == 45 {
         let m = magnitude(s, at + 1, 2147483648);
-        let end = m.end;
         return Num32 {
             value: minus32(m.value),
-            end,
+            end: m.end,
         };
     }
     if b == 48 {
         return Num32 {
             value: 0,
-            end: Step::Past(at + 1),
+            end: at + 1,
         };
     }
     let m = magnitude(s, at, 2147483647);
-    let end = m.end;
     Num32 {
         value: plus32(m.value),
-        end,
+        end: m.end,
     }
 }
 
@@ -167,29 +168,27 @@ pub(crate) fn number64(s: &[u8], at: usize) -> Num64
     if s.len() <= at {
         return Num64 {
             value: 0,
-            end: Step::Short(at),
+            end: stuck(s, at),
         };
     }
     let b = s[at];
     if b == 45 {
         let m = magnitude(s, at + 1, 9223372036854775807);
-        let end = m.end;
         return Num64 {
             value: minus64(m.value),
-            end,
+            end: m.end,
         };
     }
     if b == 48 {
         return Num64 {
             value: 0,
-            end: Step::Past(at + 1),
+            end: at + 1,
         };
     }
     let m = magnitude(s, at, 9223372036854775807);
-    let end = m.end;
     Num64 {
         value: plus64(m.value),
-        end,
+        end: m.end,
     }
 }
 
@@ -201,13 +200,13 @@ pub(crate) fn read_dim(s: &[u8], at: usize) -> Num64
     if s.len() <= at {
         return Num64 {
             value: 0,
-            end: Step::Short(at),
+            end: stuck(s, at),
         };
     }
     if s[at] == 63 {
         return Num64 {
             value: DYNAMIC,
-            end: Step::Past(at + 1),
+            end: at + 1,
         };
     }
     number64(s, at)

@@ -1,57 +1,43 @@
 // A whole strict form: the first word tells the kind and what follows.
+use super::heads::read_head;
 use super::inner::read_pointee;
 use super::inner::read_tensor;
 use super::inner::read_tile;
-use super::list::Row32;
-use super::list::Row64;
-use super::list::none32;
-use super::list::none64;
-use super::number::Step;
 use super::view::View;
 use super::view::read_gather;
 use super::view::read_partition;
 use super::view::read_strided;
-use super::words::read_word;
 use meaning::Kind;
 ghost use mathlib.Core.Path.{_≡_};
+ghost use mathlib.Core.List.{[]};
 ghost use lib.ListN.{length};
+ghost use Rattle.meaning.specs.Found.{padded};
 ghost use Prim.Native.Nat.{_≤_};
 ghost use Rattle.strict.specs.Cursor.{Told, place};
 ghost use Rattle.strict.specs.Words.{next};
-ghost use Rattle.strict.specs.Lists.{row64, nothing};
-ghost use Rattle.strict.specs.Views.{shown};
-ghost use Rattle.strict.specs.Whole.{Made, simple, view-of, entire, from-gather, from-partition, from-tensor, from-tile, from-pointer, from-token, from-head, whole};
+ghost use Rattle.strict.specs.Whole.{plainly, viewing, entire, from-partition, whole};
 
-// A type of any rank: a scalar and a padding by their numbers.
+// A type of any rank: a scalar and a padding by their numbers, and how many entries its lists have.
 pub(crate) struct Whole {
     pub(crate) kind: Kind,
     pub(crate) pointer: bool,
     pub(crate) word: usize,
     pub(crate) marked: bool,
-    pub(crate) shape: Row64,
-    pub(crate) strides: Row64,
-    pub(crate) tile: Row32,
-    pub(crate) map: Row32,
-    pub(crate) walk: Row32,
+    pub(crate) shape: usize,
+    pub(crate) strides: usize,
+    pub(crate) tile: usize,
+    pub(crate) map: usize,
+    pub(crate) walk: usize,
     pub(crate) sparse: i32,
     pub(crate) padded: bool,
     pub(crate) pad: usize,
-    pub(crate) end: Step,
+    pub(crate) end: usize,
 }
 
 // A type that is no view.
-fn made(
-    kind: Kind,
-    pointer: bool,
-    word: usize,
-    marked: bool,
-    shape: Row64,
-    strides: Row64,
-    end: Step,
-) -> Whole
-    ensures { λ r. ⌜ Made (simple kind pointer word marked (row64 shape) (row64 strides)) end r ⌝ }
+fn made(kind: Kind, pointer: bool, word: usize, marked: bool, shape: usize, strides: usize, end: usize) -> Whole
+    ensures { λ r. ⌜ r ≡ plainly kind pointer word marked shape strides end ⌝ }
 {
-    let none = none32();
     Whole {
         kind,
         pointer,
@@ -59,9 +45,9 @@ fn made(
         marked,
         shape,
         strides,
-        tile: none,
-        map: none,
-        walk: none,
+        tile: 0,
+        map: 0,
+        walk: 0,
         sparse: 0,
         padded: false,
         pad: 0,
@@ -71,157 +57,77 @@ fn made(
 
 // A view.
 fn made_view(kind: Kind, v: View) -> Whole
-    ensures { λ r. ⌜ Made (view-of kind (shown v)) (v .end) r ⌝ }
+    ensures { λ r. ⌜ r ≡ viewing kind v ⌝ }
 {
     let sight = v.sight;
     let tensor = sight.tensor;
-    let shape = tensor.shape;
-    let strides = tensor.strides;
-    let tile = v.tile;
-    let map = v.map;
-    let walk = v.walk;
-    let end = v.end;
     Whole {
         kind,
         pointer: false,
         word: tensor.word,
         marked: tensor.marked,
-        shape,
-        strides,
-        tile,
-        map,
-        walk,
+        shape: tensor.rank,
+        strides: tensor.len,
+        tile: v.tile,
+        map: v.map,
+        walk: v.walk,
         sparse: v.sparse,
         padded: sight.padded,
         pad: sight.pad,
-        end,
+        end: v.end,
     }
 }
 
-// After the first word: a gather-scatter view or a strided view.
-fn on_gather(s: &[u8], from: Step, k: usize) -> Whole
-    requires { ⌜ place from ≤ length (now s) ⌝ }
-    ensures { λ r. ⌜ Told (now (s .entry)) (place from) (next (now (s .entry)) (from-gather k) from) (entire r) (r .end) ⌝ }
+// After the first word `k`: a partition view, a gather-scatter view or a strided view.
+fn on_view(s: &[u8], from: usize, k: usize, shape: &mut [i64], strides: &mut [i64], tile: &mut [i32], map: &mut [i32], walk: &mut [i32]) -> Whole
+    requires { ⌜ place (now s) from ≤ length (now s) ⌝ }
+    requires { ⌜ now shape ≡ padded 8 [] ⌝ }
+    requires { ⌜ now strides ≡ padded 8 [] ⌝ }
+    requires { ⌜ now tile ≡ padded 8 [] ⌝ }
+    requires { ⌜ now map ≡ padded 8 [] ⌝ }
+    requires { ⌜ now walk ≡ padded 8 [] ⌝ }
+    ensures { λ r. ⌜ Told (now (s .entry)) (place (now (s .entry)) from) (next (now (s .entry)) (from-partition k) from) (entire (now (shape .exit)) (now (strides .exit)) (now (tile .exit)) (now (map .exit)) (now (walk .exit)) r) (r .end) ⌝ }
 {
+    if k < 32 {
+        let v = read_partition(s, from, shape, strides, tile, map);
+        return made_view(Kind::Partition, v);
+    }
     if k < 34 {
-        let v = read_gather(s, from);
+        let v = read_gather(s, from, shape, strides, tile);
         return made_view(Kind::GatherScatter, v);
     }
-    let v = read_strided(s, from);
+    let v = read_strided(s, from, shape, strides, tile, map, walk);
     made_view(Kind::Strided, v)
 }
 
-// Or a partition view.
-fn on_partition(s: &[u8], from: Step, k: usize) -> Whole
-    requires { ⌜ place from ≤ length (now s) ⌝ }
-    ensures { λ r. ⌜ Told (now (s .entry)) (place from) (next (now (s .entry)) (from-partition k) from) (entire r) (r .end) ⌝ }
+// A whole strict form from the start of the text, with the place where it ends or is stuck. Its lists are laid into five blank ones.
+pub(crate) fn read_whole(s: &[u8], shape: &mut [i64], strides: &mut [i64], tile: &mut [i32], map: &mut [i32], walk: &mut [i32]) -> Whole
+    requires { ⌜ now shape ≡ padded 8 [] ⌝ }
+    requires { ⌜ now strides ≡ padded 8 [] ⌝ }
+    requires { ⌜ now tile ≡ padded 8 [] ⌝ }
+    requires { ⌜ now map ≡ padded 8 [] ⌝ }
+    requires { ⌜ now walk ≡ padded 8 [] ⌝ }
+    ensures { λ r. ⌜ Told (now (s .entry)) 0 (whole (now (s .entry))) (entire (now (shape .exit)) (now (strides .exit)) (now (tile .exit)) (now (map .exit)) (now (walk .exit)) r) (r .end) ⌝ }
 {
-    if k < 32 {
-        let v = read_partition(s, from);
-        return made_view(Kind::Partition, v);
+    let k = read_head(s);
+    if k.word < 22 {
+        return made(Kind::Scalar, false, k.word, false, 0, 0, k.end);
     }
-    on_gather(s, from, k)
-}
-
-// Or a tensor view.
-fn on_tensor(s: &[u8], from: Step, k: usize) -> Whole
-    requires { ⌜ place from ≤ length (now s) ⌝ }
-    ensures { λ r. ⌜ Told (now (s .entry)) (place from) (next (now (s .entry)) (from-tensor k) from) (entire r) (r .end) ⌝ }
-{
-    if k < 30 {
-        let t = read_tensor(s, from);
-        let shape = t.shape;
-        let strides = t.strides;
-        let end = t.end;
-        return made(
-            Kind::TensorView,
-            false,
-            t.word,
-            t.marked,
-            shape,
-            strides,
-            end,
-        );
+    if k.word < 24 {
+        return made(Kind::Token, false, 0, false, 0, 0, k.end);
     }
-    on_partition(s, from, k)
-}
-
-// Or a tile.
-fn on_tile(s: &[u8], from: Step, k: usize) -> Whole
-    requires { ⌜ place from ≤ length (now s) ⌝ }
-    ensures { λ r. ⌜ Told (now (s .entry)) (place from) (next (now (s .entry)) (from-tile k) from) (entire r) (r .end) ⌝ }
-{
-    if k < 28 {
-        let t = read_tile(s, from);
-        let shape = t.shape;
-        let core = t.core;
-        let end = core.end;
-        let none = none64();
-        return made(
-            Kind::Tile,
-            core.pointer,
-            core.word,
-            core.marked,
-            shape,
-            none,
-            end,
-        );
+    if k.word < 26 {
+        let c = read_pointee(s, k.end);
+        return made(Kind::Pointer, false, c.word, c.marked, 0, 0, c.end);
     }
-    on_tensor(s, from, k)
-}
-
-// Or a pointer.
-fn on_pointer(s: &[u8], from: Step, k: usize) -> Whole
-    requires { ⌜ place from ≤ length (now s) ⌝ }
-    ensures { λ r. ⌜ Told (now (s .entry)) (place from) (next (now (s .entry)) (from-pointer k) from) (entire r) (r .end) ⌝ }
-{
-    if k < 26 {
-        let c = read_pointee(s, from);
-        let end = c.end;
-        let none = none64();
-        return made(Kind::Pointer, false, c.word, c.marked, none, none, end);
+    if k.word < 28 {
+        let t = read_tile(s, k.end, shape);
+        let c = t.core;
+        return made(Kind::Tile, c.pointer, c.word, c.marked, t.rank, 0, c.end);
     }
-    on_tile(s, from, k)
-}
-
-// Or a token.
-fn on_token(s: &[u8], from: Step, k: usize) -> Whole
-    requires { ⌜ place from ≤ length (now s) ⌝ }
-    ensures { λ r. ⌜ Told (now (s .entry)) (place from) (next (now (s .entry)) (from-token k) from) (entire r) (r .end) ⌝ }
-{
-    if k < 24 {
-        let none = none64();
-        return made(Kind::Token, false, 0, false, none, none, from);
+    if k.word < 30 {
+        let t = read_tensor(s, k.end, shape, strides);
+        return made(Kind::TensorView, false, t.word, t.marked, t.rank, t.len, t.end);
     }
-    on_pointer(s, from, k)
-}
-
-// Or a scalar.
-fn on_head(s: &[u8], from: Step, k: usize) -> Whole
-    requires { ⌜ place from ≤ length (now s) ⌝ }
-    ensures { λ r. ⌜ Told (now (s .entry)) (place from) (next (now (s .entry)) (from-head k) from) (entire r) (r .end) ⌝ }
-{
-    if k < 22 {
-        let none = none64();
-        return made(Kind::Scalar, false, k, false, none, none, from);
-    }
-    on_token(s, from, k)
-}
-
-// A whole strict form from the start of the text, with the place where it ends or is stuck.
-pub(crate) fn read_whole(s: &[u8]) -> Whole
-    ensures { λ r. ⌜ Told (now (s .entry)) 0 (whole (now (s .entry))) (entire r) (r .end) ⌝ }
-{
-    let k = read_word(
-        s,
-        Step::Past(0),
-        b"i1|i4|i8|i16|i32|i64|f16|bf16|f32|tf32|f64|\
-          f8E4M3FN|f8e4m3fn|f8E5M2|f8e5m2|f8E8M0FNU|f8e8m0fnu|f4E2M1FN|f4e2m1fn|f8E5M3FNU|f8e5m3fnu|bool|\
-          token|!cuda_tile.token|ptr<|!cuda_tile.ptr<|tile<|!cuda_tile.tile<|tensor_view<|!cuda_tile.tensor_view<|\
-          partition_view<tile=(|!cuda_tile.partition_view<tile=(|\
-          gather_scatter_view<tile=(|!cuda_tile.gather_scatter_view<tile=(|\
-          strided_view<tile=(|!cuda_tile.strided_view<tile=(|",
-    );
-    let e = k.end;
-    on_head(s, e, k.word)
+    on_view(s, k.end, k.word, shape, strides, tile, map, walk)
 }

@@ -1,129 +1,103 @@
-// A word of a table, each ended by `|`: how far any goes, and the first that ends just there.
-use super::number::Step;
+// Words at a place: one word, or one of two that differ in their first byte.
+use super::number::stuck;
 ghost use mathlib.Core.Path.{_≡_};
-ghost use lib.ListN.{drop, length};
+ghost use mathlib.Core.List.{[], _∷_, _++_};
+ghost use lib.Dec.{T};
+ghost use lib.ListN.{drop, length, getD};
 ghost use Prim.Native.Nat.{_≤_};
-ghost use Rattle.grammar.specs.Scored.{common, reach, hit};
-ghost use Rattle.strict.specs.Cursor.{Told, place};
-ghost use Rattle.strict.specs.Words.{stretch, entries, hit-said, next, choose};
-
-enum Hit {
-    Word(usize),
-    Nothing,
-}
+ghost use Rattle.grammar.specs.Table.{_↝_};
+ghost use Rattle.strict.specs.Cursor.{Told, place, stuck-at};
+ghost use Rattle.strict.specs.Words.{next, among, differ, ended, both};
 
 // The number of a word in its table, with the place after it.
 pub(crate) struct Picked {
     pub(crate) word: usize,
-    pub(crate) end: Step,
+    pub(crate) end: usize,
 }
 
-// How far the first word of a table goes.
-fn stretch(t: &[u8]) -> usize
-    ensures { λ r. ⌜ r ≡ stretch (now (t .entry)) ⌝ }
+// The byte at a place; 0 past the end.
+pub(crate) fn peek(s: &[u8], at: usize) -> u8
+    ensures { λ r. ⌜ r ≡ getD (now (s .entry)) at 0 ⌝ }
 {
-    let mut i = 0;
-    while i < t.len() {
-        if t[i] == 124 {
-            return i;
-        }
-        i += 1;
+    if at < s.len() {
+        return s[at];
     }
-    i
+    0
 }
 
-// How many bytes of `w` stand at `at`.
-fn common(s: &[u8], at: usize, w: &[u8]) -> usize
+// The word `k`, with its end.
+pub(crate) fn found(k: usize, at: usize) -> Picked
+    ensures { λ r. ⌜ r ≡ ended k at ⌝ }
+{
+    Picked {
+        word: k,
+        end: at,
+    }
+}
+
+// No word goes on at `at`.
+pub(crate) fn none(s: &[u8], at: usize) -> Picked
     requires { ⌜ at ≤ length (now s) ⌝ }
-    ensures { λ r. ⌜ r ≡ common (now (w .entry)) (drop at (now (s .entry))) ⌝ }
+    ensures { λ r. ⌜ r ≡ ended 0 (stuck-at (now (s .entry)) at) ⌝ }
+{
+    Picked {
+        word: 0,
+        end: stuck(s, at),
+    }
+}
+
+// The word `w`, of the number `k`.
+pub(crate) fn fit(s: &[u8], at: usize, w: &[u8], k: usize) -> Picked
+    requires { ⌜ at ≤ length (now s) ⌝ }
+    ensures { λ r. ⌜ Told (now (s .entry)) at (among ((now (w .entry) ↝ k) ∷ []) (drop at (now (s .entry)))) (r .word) (r .end) ⌝ }
 {
     let mut i = at;
     let mut j = 0;
     while j < w.len() {
         if s.len() <= i {
-            return j;
+            return none(s, i);
         }
         if s[i] != w[j] {
-            return j;
+            return none(s, i);
         }
         i += 1;
         j += 1;
     }
-    j
-}
-
-// How far any word of the table stands at `at`.
-fn reach(s: &[u8], at: usize, table: &[u8]) -> usize
-    requires { ⌜ at ≤ length (now s) ⌝ }
-    ensures { λ r. ⌜ r ≡ reach (drop at (now (s .entry))) (entries (now (table .entry))) ⌝ }
-{
-    let mut t = table;
-    let mut best = 0;
-    while 0 < t.len() {
-        let k = stretch(t);
-        let n = common(s, at, &t[..k]);
-        if best < n {
-            best = n;
-        }
-        if t.len() <= k {
-            return best;
-        }
-        t = &t[k + 1..];
-    }
-    best
-}
-
-// The first word of `n` bytes that stands at `at`.
-fn find_hit(s: &[u8], at: usize, table: &[u8], n: usize) -> Hit
-    requires { ⌜ at ≤ length (now s) ⌝ }
-    ensures { λ r. ⌜ hit-said r ≡ hit n (drop at (now (s .entry))) (entries (now (table .entry))) ⌝ }
-{
-    let mut t = table;
-    let mut i = 0;
-    while 0 < t.len() {
-        let k = stretch(t);
-        let m = common(s, at, &t[..k]);
-        if k == n && m == n {
-            return Hit::Word(i);
-        }
-        if t.len() <= k {
-            return Hit::Nothing;
-        }
-        t = &t[k + 1..];
-        i += 1;
-    }
-    Hit::Nothing
-}
-
-// The word of the table at `at`, or the place that no word goes past.
-fn pick(s: &[u8], at: usize, table: &[u8]) -> Picked
-    requires { ⌜ at ≤ length (now s) ⌝ }
-    ensures { λ r. ⌜ Told (now (s .entry)) at (choose (now (table .entry)) (drop at (now (s .entry)))) (r .word) (r .end) ⌝ }
-{
-    let n = reach(s, at, table);
-    let h = find_hit(s, at, table, n);
-    match h {
-        Hit::Word(i) => Picked {
-            word: i,
-            end: Step::Past(at + n),
-        },
-        Hit::Nothing => Picked {
-            word: 0,
-            end: Step::Short(at + n),
-        },
-    }
+    found(k, i)
 }
 
 // The same from where a part before it ended.
-pub(crate) fn read_word(s: &[u8], from: Step, table: &[u8]) -> Picked
-    requires { ⌜ place from ≤ length (now s) ⌝ }
-    ensures { λ r. ⌜ Told (now (s .entry)) (place from) (next (now (s .entry)) (choose (now (table .entry))) from) (r .word) (r .end) ⌝ }
+pub(crate) fn read_word(s: &[u8], from: usize, w: &[u8]) -> Picked
+    requires { ⌜ place (now s) from ≤ length (now s) ⌝ }
+    ensures { λ r. ⌜ Told (now (s .entry)) (place (now (s .entry)) from) (next (now (s .entry)) (among ((now (w .entry) ↝ 0) ∷ [])) from) (r .word) (r .end) ⌝ }
 {
-    match from {
-        Step::Past(at) => pick(s, at, table),
-        Step::Short(at) => Picked {
-            word: 0,
-            end: Step::Short(at),
-        },
+    if s.len() < from {
+        return found(0, from);
     }
+    fit(s, from, w, 0)
+}
+
+// The word `v` or the word `w`, by the first byte of `w`.
+pub(crate) fn fork(s: &[u8], from: usize, v: &[u8], j: usize, w: &[u8], k: usize) -> Picked
+    requires { ⌜ place (now s) from ≤ length (now s) ⌝ }
+    requires { ⌜ T (differ (now v) (now w)) ⌝ }
+    ensures { λ r. ⌜ Told (now (s .entry)) (place (now (s .entry)) from) (next (now (s .entry)) (among ((now (v .entry) ↝ j) ∷ (now (w .entry) ↝ k) ∷ [])) from) (r .word) (r .end) ⌝ }
+{
+    if s.len() < from {
+        return found(0, from);
+    }
+    if peek(s, from) == w[0] {
+        return fit(s, from, w, k);
+    }
+    fit(s, from, v, j)
+}
+
+// The same two after the word `lead`.
+pub(crate) fn read_two(s: &[u8], from: usize, lead: &[u8], v: &[u8], w: &[u8]) -> Picked
+    requires { ⌜ place (now s) from ≤ length (now s) ⌝ }
+    requires { ⌜ T (differ (now v) (now w)) ⌝ }
+    ensures { λ r. ⌜ Told (now (s .entry)) (place (now (s .entry)) from) (next (now (s .entry)) (among (both (now (lead .entry)) (now (v .entry)) (now (w .entry)))) from) (r .word) (r .end) ⌝ }
+{
+    let p = read_word(s, from, lead);
+    fork(s, p.end, v, 0, w, 1)
 }

@@ -18,9 +18,7 @@ parse-strict-spec =
     (λ c κs. search needs)
     (λ c. search needs)
     (λ c κs. search needs)
-    (λ c κs. search needs)
     (λ c. let p = c .before .before .before .before in let s = p .before .before .before .args .text .now in
     L.strictly s (L.high-at s _ (search needs) (sym (p .first-high .ensures) ∙ ap spot (c .before .before .place .given .1)) (c .refuse2 .ensures)))
-    (λ c. let p = c .before .before .before .before in let s = p .before .before .before .args .text .now in
-    L.strictly s (L.read-on s whole-is (search needs) (sym (p .first-high .ensures) ∙ ap spot (c .before .before .enum-told .given .1))
-    (c .before .read-whole .ensures .same) (c .judge .ensures))))
+    (λ c. let p = c .before .before .before in let s = p .before .before .before .args .text .now in
+    L.strictly s (L.read-on s whole-is (search needs) (sym (p .first-high .ensures) ∙ ap spot (c .before .enum-told .given .1)) (c .judge .ensures))))

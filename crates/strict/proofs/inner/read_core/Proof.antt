@@ -1,36 +1,47 @@
--- `read_core` meets its contract: a name and the tile's end, or what a pointer is and both ends.
+-- `read_core` meets its contract: a name or a pointer, then the end of the tile.
 use Rattle.strict.proofs.Chain as H
-use Rattle.strict.proofs.Insides as L
+use Rattle.strict.proofs.Cursors as K
+use Rattle.strict.specs.Cursor as C
 use Rattle.strict.specs.Inner as I
-use Rattle.strict.specs.Words.{choose}
+use Rattle.strict.specs.Views as Y
+use Rattle.strict.proofs.Insides as L
+use Rattle.strict.specs.Words.{choose, among}
+use Rattle.strict.specs.Lists.{Row, row, nothing}
 use Rattle.lexis.specs.Text.{bytes}
+use Rattle.grammar.specs.Join.{mapped, after}
+use mathlib.Core.Bool.{true, false}
+use mathlib.Core.List.{List}
+use lib.IntN.{ℤ, pos}
+use mir.Syntax.{w32}
+use mir.Val.{toZ, ofZ}
 use Prim.Native.Nat.{ℕ}
-use mathlib.Core.Path.{_≡_, _∙_}
+use mathlib.Core.Path.{_≡_, refl, sym, ap, _∙_}
 use native.Mathlib.Omega.{arith}
 use borrow.Author.Needs.{needs}
 use Rattle.strict.proofs.inner.read_core.Statement.{statement}
 use Rattle.strict.proofs.inner.read_core.Tie as tie
 
-pub read-core-spec : {M : Type 1} → statement M
-read-core-spec =
-    tie.close
-    (tie.spec
-    (λ c. search needs)
-    (λ c κs. search needs)
-    (λ c. search needs)
-    (λ c κs. search needs)
-    (λ c. let a = c .before .before .before .before .before .before .before .args in let s = a .s .now in let n = c .before .before .before .before .read-word in let m = c .read-word2 in
-    let o = n .ensures .onward in let q = m .ensures .onward in
+returns : tie.Need-returns
+unfolding choose among
+returns c = let a = (c .before .before .before .before .before .before .args) in let s = a .s .now in let n = (c .before .before .before .before .read-core-name) in let m = (c .read-word) in let o = n .ensures .onward in let q = m .ensures .onward in
     record {
       same = L.core-is s (a .from) ∙ H.chain s (choose I.kerns) I.core-of (n .result .word) (a .from) (n .result .end) (n .ensures .same)
           ∙ L.core-plain s (n .result .end) (n .result .word) (search needs)
           ∙ H.last s (choose (bytes ">|")) (λ (k : ℕ). I.plain (n .result .word)) (m .result .word) (n .result .end) (m .result .end) (m .ensures .same);
       inside = m .ensures .inside;
       onward = omega arith;
-    })
+    }
+
+pub read-core-spec : {M : Type 1} → statement M
+read-core-spec =
+    tie.close
+    (tie.spec
     (λ c κs. search needs)
-    (λ c. let a = c .before .before .before .before .before .before .args in let s = a .s .now in let n = c .before .before .before .read-word in let m = c .read-pointer in
-    let o = n .ensures .onward in let q = m .ensures .onward in
+    (λ c. search needs)
+    (λ c κs. search needs)
+    returns
+    (λ c κs. search needs)
+    (λ c. let a = (c .before .before .before .before .before .args) in let s = a .s .now in let n = (c .before .before .before .read-core-name) in let m = (c .read-pointer) in let o = n .ensures .onward in let q = m .ensures .onward in
     record {
       same = L.core-is s (a .from) ∙ H.chain s (choose I.kerns) I.core-of (n .result .word) (a .from) (n .result .end) (n .ensures .same)
           ∙ L.core-point s (n .result .end) (n .result .word) (search needs) ∙ m .ensures .same;

@@ -1,67 +1,54 @@
 -- `read_commas64` meets its contract: the list from the start is what was read, then the list from here; by the laws of Listing.
-use mir.Syntax.{w64}
-use mir.Val.{toZ, ofZ}
 use Rattle.strict.proofs.Listing as L
 use Rattle.strict.proofs.Items as I
+use Rattle.strict.proofs.Cursors as H
 use Rattle.strict.specs.Cursor as C
-use Rattle.strict.specs.Lists.{Row, row64, pushed, pushes}
-use Rattle.strict.specs.Rows.{commas64}
-use Rattle.grammar.specs.Join.{mapped}
-use mathlib.Core.Path.{_≡_, refl, sym, ap, subst, _∙_}
+use Rattle.strict.specs.Lists.{Row, row, nothing, pushed, pushes}
+use Rattle.strict.specs.Rows.{commas32, xs32, commas64, dims64, tail32, list32, list64}
+use Rattle.strict.specs.Words.{next}
+use Rattle.strict.proofs.Items.{goes}
+use Rattle.grammar.specs.Join.{mapped, after}
+use Rattle.grammar.specs.Piece.{member}
+use Rattle.grammar.specs.Several.{figs?}
+use borrow.Author.Tests.{not-true, not-false}
+use lib.IntN.{ℤ, pos}
+use mathlib.Core.Bool.{false}
+use mathlib.Core.List.{List}
+use mir.Syntax.{w64}
+use mir.Val.{toZ, ofZ}
+use lib.ListN.{drop, length, set}
+use Prim.Native.Nat.{ℕ, _+_, _-_, _≤_, _<_, _^_}
+use mathlib.Core.Path.{_≡_, refl, sym, ap, _∙_}
 use native.Mathlib.Omega.{arith}
-use Prim.Native.Nat.{ℕ, _≤_, _-_, _+_, _^_}
-use lib.ListN.{length, drop}
 use borrow.Author.Needs.{needs}
 use Rattle.strict.proofs.list.read_commas64.Statement.{statement}
 use Rattle.strict.proofs.list.read_commas64.Tie as tie
 
 abbrev Inv-loop : tie.InvT-loop
-Inv-loop s at l₀ i₀ l i = (i ≤ length s) × (at ≤ i) × (l .len ≤ i + 1) × (mapped (pushes (row64 l₀)) (commas64 (drop at s)) ≡ mapped (pushes (row64 l)) (commas64 (drop i s)))
+Inv-loop s at out₀ n₀ i₀ out n i = (i ≤ length s) × (at ≤ i) × (n ≤ i + 1) × (length out ≡ length out₀) × (mapped (pushes (row out₀ 1)) (commas64 (drop at s)) ≡ mapped (pushes (row out n)) (commas64 (drop i s)))
 
 abbrev μ-loop : tie.MeasureT-loop
-μ-loop s at l₀ i₀ l i = length s - i
+μ-loop s at out₀ n₀ i₀ out n i = length s - i
 
 pub read-commas64-spec : {M : Type 1} → statement M
 read-commas64-spec =
     tie.close
-    (tie.spec Inv-loop μ-loop
-    (λ c. (search needs, search needs, search needs, refl))
+    (tie.spec
+    Inv-loop
+    μ-loop
+    (λ c. (search needs, search needs, search needs, refl, refl))
     (λ c. search needs)
-    (λ c. let s = c .before .before .before .before .before .args .s .now in let l = c .before .before .before .loop in
-    record {
-      same = l .inv .3 ∙ L.stop commas64 s (l .i) (row64 (l .l)) (L.at-off commas64 s (l .i) (λ z. z ≡ 44 → ⊥) I.commas64-off (search needs) (c .if1 .taken));
-      inside = search needs;
-      onward = search needs;
-    })
+    (λ c. (c .before .before .before .loop) .inv .3)
+    (λ c. let l = (c .before .before .before .loop) in let a = (c .before .before .before .before .before .args) in let s = a .s .now in H.past s (a .at) (mapped (pushes (row (a .out .now) 1)) (commas64 (drop (a .at) (a .s .now)))) (row (l .out) (l .n)) (l .i) (search needs) (search needs) (l .inv .4 ∙ L.stop commas64 s (l .i) (row (l .out) (l .n)) (L.at-off commas64 s (l .i) (λ z. z ≡ 44 → ⊥) I.commas64-off (search needs) ((c .if1) .taken))))
     (λ c. search needs)
     (λ c κs. search needs)
     (λ c κs. search needs)
-    (λ c. search needs)
+    (λ c. (c .before .before .before .before .before .before .before .loop) .inv .3)
+    (λ c. let l = (c .before .before .before .before .before .before .before .loop) in let a = (c .before .before .before .before .before .before .before .before .before .args) in let s = a .s .now in let nu = (c .before .before .read-dim) in let v = nu .result .value in let e = nu .result .end in let j = nu .ensures .inside in let o = nu .ensures .onward in record { same = l .inv .4 ∙ L.item-off commas64 s (l .i) (row (l .out) (l .n)) _ v (row (l .out) (l .n)) e (search needs) (L.at-on commas64 s (l .i) 44 (λ t. C.dimension (C.skip t)) I.commas64-on (search needs) ((c .before .before .before .before .if1) .left)) (ap C.dimension ((c .before .before .before .space) .ensures .same) ∙ nu .ensures .same); inside = j; onward = omega arith })
     (λ c κs. search needs)
-    (λ c. let g = c .before .before .before .e .given .1 in let k = ap C.place g in let nu = c .before .before .before .before .before .read-dim in let sp = c .before .before .before .before .before .before .space in let o = nu .ensures .onward in let j = nu .ensures .inside in let q = sp .ensures .onward in omega arith)
-    (λ c. let s = c .before .before .before .before .before .before .before .before .before .before .before .before .args .s .now in let l = c .before .before .before .before .before .before .before .before .before .before .loop in let sp = c .before .before .before .before .before .before .space in let nu = c .before .before .before .before .before .read-dim in let g = c .before .before .before .e .given .1 in
-    let p = c .before .before .before .e .given .0 .0 in let v = nu .result .value in let k = ap C.place g in
-    let o = nu .ensures .onward in let j = nu .ensures .inside in let q = sp .ensures .onward in
-    let z : toZ w64 (ofZ w64 v) ≡ v = search needs in
-    let e : row64 (c .push64 .result) ≡ pushed (row64 (l .l)) v = c .push64 .ensures ∙ ap (pushed (row64 (l .l))) z in
-    let m = ap (λ (r : Row). r .len) e in (
-      omega arith,
-      omega arith,
-      omega arith,
-      l .inv .3
-          ∙ L.goes-on commas64 s (l .i) (row64 (l .l)) _ v p (L.at-on commas64 s (l .i) 44 (λ t. C.dimension (C.skip t)) I.commas64-on (search needs) (c .before .before .before .before .before .before .before .if1 .left))
-          (ap C.dimension (sp .ensures .same) ∙ nu .ensures .same ∙ ap (C.valued s v) g)
-          ∙ ap (λ (w : Row). mapped (pushes w) (commas64 (drop p s))) (sym e),
-    ))
-    (λ c. search needs)
-    (λ c. let s = c .before .before .before .before .before .before .before .before .before .before .args .s .now in let l = c .before .before .before .before .before .before .before .before .loop in let sp = c .before .before .before .before .space in let nu = c .before .before .before .read-dim in let g = c .before .e2 .given .1 in
-    let p = c .before .e2 .given .0 .0 in let k = ap C.place g in
-    let o = nu .ensures .onward in let j = nu .ensures .inside in let q = sp .ensures .onward in
-    record {
-      same = l .inv .3 ∙ L.goes-off commas64 s (l .i) (row64 (l .l)) _ p (L.at-on commas64 s (l .i) 44 (λ t. C.dimension (C.skip t)) I.commas64-on (search needs) (c .before .before .before .before .before .if1 .left))
-          (ap C.dimension (sp .ensures .same) ∙ nu .ensures .same ∙ ap (C.valued s (nu .result .value)) g);
-      inside = omega arith;
-      onward = omega arith;
-    })
-    (λ c. let s = c .before .before .before .args .s .now in let l = c .before .loop in
-    record { same = l .inv .3 ∙ L.stop commas64 s (l .i) (row64 (l .l)) (L.at-end commas64 s (l .i) I.commas64-nil (search needs)); inside = search needs; onward = search needs }))
+    (λ c. let l = (c .before .before .before .before .before .before .before .before .before .before .before .loop) in let a = (c .before .before .before .before .before .before .before .before .before .before .before .before .before .args) in let s = a .s .now in let x = l .inv .2 in search needs)
+    (λ c. let l = (c .before .before .before .before .before .before .before .before .before .before .before .loop) in let a = (c .before .before .before .before .before .before .before .before .before .before .before .before .before .args) in let s = a .s .now in let nu = (c .before .before .before .before .before .before .read-dim) in let v = nu .result .value in let e = nu .result .end in let j = nu .ensures .inside in let o = nu .ensures .onward in let h : e ≤ length s = search needs in let p = H.place-past s e h in omega arith)
+    (λ c. let l = (c .before .before .before .before .before .before .before .before .before .before .before .loop) in let a = (c .before .before .before .before .before .before .before .before .before .before .before .before .before .args) in let s = a .s .now in let nu = (c .before .before .before .before .before .before .read-dim) in let v = nu .result .value in let e = nu .result .end in let j = nu .ensures .inside in let o = nu .ensures .onward in let z : toZ w64 (ofZ w64 v) ≡ v = search needs in let h : e ≤ length s = search needs in let p = H.place-past s e h in let t : row ((c .before .put64) .last .0) (l .n + 1) ≡ pushed (row (l .out) (l .n)) v = L.stored (l .out) (l .n) ((c .before .put64) .ensures) z in (search needs, omega arith, omega arith, L.kept (l .out) (l .n) (toZ w64 (ofZ w64 v)) ((c .before .put64) .ensures) ∙ l .inv .3,
+    l .inv .4 ∙ L.item-on commas64 s (l .i) (row (l .out) (l .n)) _ v e h (L.at-on commas64 s (l .i) 44 (λ t. C.dimension (C.skip t)) I.commas64-on (search needs) ((c .before .before .before .before .before .before .before .before .if1) .left)) (ap C.dimension ((c .before .before .before .before .before .before .before .space) .ensures .same) ∙ nu .ensures .same) ∙ ap (λ (x : Row). mapped (pushes x) (commas64 (drop e s))) (sym t)))
+    (λ c. (c .before .loop) .inv .3)
+    (λ c. let l = (c .before .loop) in let a = (c .before .before .before .args) in let s = a .s .now in H.past s (a .at) (mapped (pushes (row (a .out .now) 1)) (commas64 (drop (a .at) (a .s .now)))) (row (l .out) (l .n)) (l .i) (search needs) (search needs) (l .inv .4 ∙ L.stop commas64 s (l .i) (row (l .out) (l .n)) (L.at-end commas64 s (l .i) I.commas64-nil (search needs)))))

@@ -1,31 +1,29 @@
--- `read_sparse` meets its contract: a word, a numeral, the end of the view.
+-- `read_sparse` meets its contract: its word, a numeral, the end.
+use Rattle.strict.proofs.Chain as H
+use Rattle.strict.proofs.Cursors as K
+use Rattle.strict.specs.Cursor as C
+use Rattle.strict.specs.Inner as I
+use Rattle.strict.specs.Views as Y
+use Rattle.strict.proofs.Viewing as L
+use Rattle.strict.specs.Words.{choose, among}
+use Rattle.strict.specs.Lists.{Row, row, nothing}
+use Rattle.lexis.specs.Text.{bytes}
+use Rattle.grammar.specs.Join.{mapped, after}
+use mathlib.Core.Bool.{true, false}
+use mathlib.Core.List.{List}
+use lib.IntN.{ℤ, pos}
 use mir.Syntax.{w32}
 use mir.Val.{toZ, ofZ}
-use lib.IntN.{ℤ}
-use Rattle.strict.proofs.Chain as H
-use Rattle.strict.proofs.Viewing as L
-use Rattle.strict.specs.Cursor as C
-use Rattle.strict.specs.Views as Y
-use Rattle.strict.specs.Words.{choose}
-use Rattle.lexis.specs.Text.{bytes}
 use Prim.Native.Nat.{ℕ}
-use mathlib.Core.Path.{_≡_, sym, ap, _∙_}
+use mathlib.Core.Path.{_≡_, refl, sym, ap, _∙_}
 use native.Mathlib.Omega.{arith}
 use borrow.Author.Needs.{needs}
 use Rattle.strict.proofs.view.read_sparse.Statement.{statement}
 use Rattle.strict.proofs.view.read_sparse.Tie as tie
 
-pub read-sparse-spec : {M : Type 1} → statement M
-read-sparse-spec =
-    tie.close
-    (tie.spec
-    (λ c. search needs)
-    (λ c κs. search needs)
-    (λ c κs. search needs)
-    (λ c. search needs)
-    (λ c κs. search needs)
-    (λ c. let a = c .before .before .before .before .before .before .before .args in let s = a .s .now in let k = c .before .before .before .before .read-word in let n = c .before .before .before .read-small in let m = c .before .read-word2 in let v = n .result .value in
-    let o = k .ensures .onward in let p = n .ensures .onward in let q = m .ensures .onward in let z : toZ w32 (ofZ w32 v) ≡ v = search needs in
+returns : tie.Need-returns
+unfolding choose among
+returns c = let a = (c .before .before .before .before .before .before .before .before .before .args) in let s = a .s .now in let k = (c .before .before .before .before .read-two) in let n = (c .before .before .before .read-small) in let m = (c .before .read-word) in let v = n .result .value in let o = k .ensures .onward in let p = n .ensures .onward in let q = m .ensures .onward in let z : toZ w32 (ofZ w32 v) ≡ v = search needs in
     record {
       same = L.sparse-is s (a .from) ∙ H.chain s (choose Y.sparses) Y.sparse-from (k .result .word) (a .from) (k .result .end) (k .ensures .same)
           ∙ H.chain s Y.small Y.sparse-tail v (k .result .end) (n .result .end) (n .ensures .same)
@@ -33,4 +31,17 @@ read-sparse-spec =
           ∙ ap (λ (y : ℤ). C.valued s y (m .result .end)) (sym z);
       inside = m .ensures .inside;
       onward = omega arith;
-    }))
+    }
+
+pub read-sparse-spec : {M : Type 1} → statement M
+read-sparse-spec =
+    tie.close
+    (tie.spec
+    (λ c. search needs)
+    (λ c. search needs)
+    (λ c. search needs)
+    (λ c κs. ((c .before .before .before .before .pre), tt))
+    (λ c κs. search needs)
+    (λ c. search needs)
+    (λ c κs. search needs)
+    returns)

@@ -1,6 +1,15 @@
--- `read_word` meets its contract: what `pick` says, or nothing where the part before is stuck.
-use Rattle.strict.specs.Cursor as C
+-- `read_word` meets its contract: the word from where a part before it ended.
+use Rattle.strict.proofs.Cursors as C
+use Rattle.strict.proofs.Tree as L
+use Rattle.lexis.specs.Text.{bytes}
 use Rattle.strict.specs.Words as W
+use Rattle.strict.specs.Inner as I
+use Rattle.strict.specs.Whole as M
+use Rattle.strict.specs.Views as Y
+use Rattle.grammar.specs.Table.{_↝_, advance}
+use mathlib.Core.List.{[], _∷_}
+use lib.ListN.{drop, length, getD}
+use Prim.Native.Nat.{_+_, _-_, _≤_, _<_}
 use mathlib.Core.Path.{_≡_, refl, sym, ap, _∙_}
 use native.Mathlib.Omega.{arith}
 use borrow.Author.Needs.{needs}
@@ -11,10 +20,7 @@ pub read-word-spec : {M : Type 1} → statement M
 read-word-spec =
     tie.close
     (tie.spec
-    (λ c. search needs)
-    (λ c κs. let p = ap C.place (c .before .from .given .1) in omega arith)
-    (λ c. search needs)
-    (λ c. let a = c .before .before .before .before .before .before .args in let g = c .before .before .from .given .1 in let p = ap C.place g in let e = c .pick .ensures in let o = e .onward in
-    record { same = ap (W.next (a .s .now) (W.choose (a .table .now))) g ∙ e .same; inside = e .inside; onward = omega arith })
-    (λ c. let a = c .before .before .before .before .before .args in let g = c .before .from2 .given .1 in let p = ap C.place g in
-    record { same = ap (W.next (a .s .now) (W.choose (a .table .now))) g; inside = omega arith; onward = omega arith }))
+    (λ c κs. search needs)
+    (λ c. let a = (c .before .before .before .before .args) in L.idle ((c .before .before .before .before .args) .s .now) (W.among ((a .w .now ↝ 0) ∷ [])) ((c .before .before .before .before .args) .from) ((c .found) .result) (search needs) ((c .before .before .before .before .pre)) ((c .found) .ensures))
+    (λ c κs. search needs)
+    (λ c. let a = (c .before .before .before .before .args) in C.begin ((c .before .before .before .before .args) .s .now) (W.among ((a .w .now ↝ 0) ∷ [])) ((c .before .before .before .before .args) .from) (search needs) ((c .fit) .ensures)))

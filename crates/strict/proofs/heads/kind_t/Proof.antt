@@ -1,0 +1,39 @@
+-- `kind_t` meets its contract: each byte leaves the words that go on with it.
+use Rattle.strict.proofs.Cursors as C
+use Rattle.strict.proofs.Tree as L
+use Rattle.lexis.specs.Text.{bytes}
+use Rattle.strict.specs.Words as W
+use Rattle.strict.specs.Inner as I
+use Rattle.strict.specs.Whole as M
+use Rattle.strict.specs.Views as Y
+use Rattle.grammar.specs.Table.{_↝_, advance}
+use mathlib.Core.List.{[], _∷_}
+use lib.ListN.{drop, length, getD}
+use Prim.Native.Nat.{_+_, _-_, _≤_, _<_}
+use mathlib.Core.Path.{_≡_, refl, sym, ap, _∙_}
+use native.Mathlib.Omega.{arith}
+use borrow.Author.Needs.{needs}
+use Rattle.strict.proofs.heads.kind_t.Statement.{statement}
+use Rattle.strict.proofs.heads.kind_t.Tie as tie
+
+pub kind-t-spec : {M : Type 1} → statement M
+kind-t-spec =
+    tie.close
+    (tie.spec
+    (λ c κs. search needs)
+    (λ c. search needs)
+    (λ c. search needs)
+    (λ c. search needs)
+    (λ c κs. let h = L.within ((c .before .before .before .before .args) .s .now) ((c .before .before .before .before .args) .at) 101 (sym ((c .before .before .peek) .ensures) ∙ (c .before .match) .keys1) tt in omega arith)
+    (λ c. search needs)
+    (λ c. search needs)
+    (λ c. search needs)
+    (λ c κs. let h = L.within ((c .before .before .before .before .args) .s .now) ((c .before .before .before .before .args) .at) 105 (sym ((c .before .before .peek) .ensures) ∙ (c .before .match) .keys2) tt in omega arith)
+    (λ c. search needs)
+    (λ c. search needs)
+    (λ c κs. let h = L.within ((c .before .before .before .before .args) .s .now) ((c .before .before .before .before .args) .at) 111 (sym ((c .before .before .peek) .ensures) ∙ (c .before .match) .keys3) tt in omega arith)
+    (λ c κs. search needs)
+    (λ c. L.down ((c .before .before .before .before .before .args) .s .now) ((c .before .before .before .before .before .args) .at) 101 (advance 116 (M.kinds ((c .before .before .before .before .before .args) .k))) (sym ((c .before .before .before .peek) .ensures) ∙ (c .before .before .match) .keys1) tt ((c .fit) .ensures))
+    (λ c. L.down ((c .before .before .before .before .before .args) .s .now) ((c .before .before .before .before .before .args) .at) 105 (advance 116 (M.kinds ((c .before .before .before .before .before .args) .k))) (sym ((c .before .before .before .peek) .ensures) ∙ (c .before .before .match) .keys2) tt ((c .fit2) .ensures))
+    (λ c. L.down ((c .before .before .before .before .before .args) .s .now) ((c .before .before .before .before .before .args) .at) 111 (advance 116 (M.kinds ((c .before .before .before .before .before .args) .k))) (sym ((c .before .before .before .peek) .ensures) ∙ (c .before .before .match) .keys3) tt ((c .fit3) .ensures))
+    (λ c. L.stop ((c .before .before .before .before .args) .s .now) ((c .before .before .before .before .args) .at) (advance 116 (M.kinds ((c .before .before .before .before .args) .k))) (101 ∷ 105 ∷ 111 ∷ []) ((c .none) .result) tt ((c .before .before .before .before .pre) .0) ((λ q. (c .before .match) .rest .0 .0 .1 ((c .before .before .peek) .ensures ∙ q)), ((λ q. (c .before .match) .rest .0 .1 ((c .before .before .peek) .ensures ∙ q)), ((λ q. (c .before .match) .rest .1 ((c .before .before .peek) .ensures ∙ q)), tt))) ((c .none) .ensures)))

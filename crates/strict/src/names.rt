@@ -1,0 +1,144 @@
+// The names of the scalars, byte for byte; each is known by its number.
+use super::words::Picked;
+use super::words::fit;
+use super::words::fork;
+use super::words::found;
+use super::words::none;
+use super::words::peek;
+ghost use lib.ListN.{drop, length};
+ghost use Prim.Native.Nat.{_≤_};
+ghost use Rattle.lexis.specs.Text.{bytes};
+ghost use Rattle.strict.specs.Cursor.{Told, place};
+ghost use Rattle.strict.specs.Words.{next, among, choose, entries};
+ghost use Rattle.strict.specs.Inner.{names, named, kerns};
+
+// After `i`.
+pub(crate) fn name_i(s: &[u8], at: usize) -> Picked
+    requires { ⌜ at ≤ length (now s) ⌝ }
+    ensures { λ r. ⌜ Told (now (s .entry)) at (among (named (bytes "i")) (drop at (now (s .entry)))) (r .word) (r .end) ⌝ }
+{
+    match peek(s, at) {
+        49 => fork_i1(s, at + 1),
+        52 => found(1, at + 1),
+        56 => found(2, at + 1),
+        51 => fit(s, at + 1, b"2", 4),
+        54 => fit(s, at + 1, b"4", 5),
+        _ => none(s, at),
+    }
+}
+
+// After `i1`: `i16`, or that is all.
+fn fork_i1(s: &[u8], at: usize) -> Picked
+    requires { ⌜ at ≤ length (now s) ⌝ }
+    ensures { λ r. ⌜ Told (now (s .entry)) at (among (named (bytes "i1")) (drop at (now (s .entry)))) (r .word) (r .end) ⌝ }
+{
+    if peek(s, at) == 54 {
+        return found(3, at + 1);
+    }
+    found(0, at)
+}
+
+// After `f8E`.
+fn name_f8_upper(s: &[u8], at: usize) -> Picked
+    requires { ⌜ at ≤ length (now s) ⌝ }
+    ensures { λ r. ⌜ Told (now (s .entry)) at (among (named (bytes "f8E")) (drop at (now (s .entry)))) (r .word) (r .end) ⌝ }
+{
+    match peek(s, at) {
+        52 => fit(s, at + 1, b"M3FN", 11),
+        53 => {
+            let m = fit(s, at + 1, b"M", 0);
+            fork(s, m.end, b"2", 13, b"3FNU", 19)
+        }
+        56 => fit(s, at + 1, b"M0FNU", 15),
+        _ => none(s, at),
+    }
+}
+
+// After `f8e`.
+fn name_f8_lower(s: &[u8], at: usize) -> Picked
+    requires { ⌜ at ≤ length (now s) ⌝ }
+    ensures { λ r. ⌜ Told (now (s .entry)) at (among (named (bytes "f8e")) (drop at (now (s .entry)))) (r .word) (r .end) ⌝ }
+{
+    match peek(s, at) {
+        52 => fit(s, at + 1, b"m3fn", 12),
+        53 => {
+            let m = fit(s, at + 1, b"m", 0);
+            fork(s, m.end, b"2", 14, b"3fnu", 20)
+        }
+        56 => fit(s, at + 1, b"m0fnu", 16),
+        _ => none(s, at),
+    }
+}
+
+// After `f8`.
+fn name_f8(s: &[u8], at: usize) -> Picked
+    requires { ⌜ at ≤ length (now s) ⌝ }
+    ensures { λ r. ⌜ Told (now (s .entry)) at (among (named (bytes "f8")) (drop at (now (s .entry)))) (r .word) (r .end) ⌝ }
+{
+    match peek(s, at) {
+        69 => name_f8_upper(s, at + 1),
+        101 => name_f8_lower(s, at + 1),
+        _ => none(s, at),
+    }
+}
+
+// After `f`.
+pub(crate) fn name_f(s: &[u8], at: usize) -> Picked
+    requires { ⌜ at ≤ length (now s) ⌝ }
+    ensures { λ r. ⌜ Told (now (s .entry)) at (among (named (bytes "f")) (drop at (now (s .entry)))) (r .word) (r .end) ⌝ }
+{
+    match peek(s, at) {
+        49 => fit(s, at + 1, b"6", 6),
+        51 => fit(s, at + 1, b"2", 8),
+        52 => fork(s, at + 1, b"E2M1FN", 17, b"e2m1fn", 18),
+        54 => fit(s, at + 1, b"4", 10),
+        56 => name_f8(s, at + 1),
+        _ => none(s, at),
+    }
+}
+
+fn name(s: &[u8], at: usize) -> Picked
+    requires { ⌜ at ≤ length (now s) ⌝ }
+    ensures { λ r. ⌜ Told (now (s .entry)) at (among (entries names) (drop at (now (s .entry)))) (r .word) (r .end) ⌝ }
+{
+    match peek(s, at) {
+        98 => fork(s, at + 1, b"f16", 7, b"ool", 21),
+        102 => name_f(s, at + 1),
+        105 => name_i(s, at + 1),
+        116 => fit(s, at + 1, b"f32", 9),
+        _ => none(s, at),
+    }
+}
+
+// A name, or the beginning of a pointer.
+fn core_name(s: &[u8], at: usize) -> Picked
+    requires { ⌜ at ≤ length (now s) ⌝ }
+    ensures { λ r. ⌜ Told (now (s .entry)) at (among (entries kerns) (drop at (now (s .entry)))) (r .word) (r .end) ⌝ }
+{
+    match peek(s, at) {
+        33 => fit(s, at + 1, b"cuda_tile.ptr<", 23),
+        112 => fit(s, at + 1, b"tr<", 22),
+        _ => name(s, at),
+    }
+}
+
+// The same from where a part before it ended.
+pub(crate) fn read_name(s: &[u8], from: usize) -> Picked
+    requires { ⌜ place (now s) from ≤ length (now s) ⌝ }
+    ensures { λ r. ⌜ Told (now (s .entry)) (place (now (s .entry)) from) (next (now (s .entry)) (choose names) from) (r .word) (r .end) ⌝ }
+{
+    if s.len() < from {
+        return found(0, from);
+    }
+    name(s, from)
+}
+
+pub(crate) fn read_core_name(s: &[u8], from: usize) -> Picked
+    requires { ⌜ place (now s) from ≤ length (now s) ⌝ }
+    ensures { λ r. ⌜ Told (now (s .entry)) (place (now (s .entry)) from) (next (now (s .entry)) (choose kerns) from) (r .word) (r .end) ⌝ }
+{
+    if s.len() < from {
+        return found(0, from);
+    }
+    core_name(s, from)
+}
