@@ -84,7 +84,7 @@ fn read_core(s: &[u8], from: usize) -> Core
     let k = read_core_name(s, from);
     if k.word < 22 {
         let m = read_word(s, k.end, b">");
-            return Core {
+        return Core {
             pointer: false,
             word: k.word,
             marked: false,

@@ -25,7 +25,14 @@ fn open_comma(s: &[u8], from: usize) -> Picked
         return found(0, from);
     }
     if peek(s, from) == 32 {
-        return fork(s, from + 1, b"#cuda_tile.ptr_attr<none>>", 1, b"strides=[", 3);
+        return fork(
+            s,
+            from + 1,
+            b"#cuda_tile.ptr_attr<none>>",
+            1,
+            b"strides=[",
+            3,
+        );
     }
     fit(s, from, b"strides=[", 2)
 }

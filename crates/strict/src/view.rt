@@ -3,11 +3,11 @@ use super::inner::Tensor;
 use super::inner::read_tensor;
 use super::list::Listed;
 use super::list::read_list32;
-use super::number::Num32;
-use super::number::number32;
 use super::middles::read_lead;
 use super::middles::read_mid;
 use super::middles::read_pad;
+use super::number::Num32;
+use super::number::number32;
 use super::words::read_two;
 use super::words::read_word;
 ghost use mathlib.Core.Path.{_≡_};
@@ -68,7 +68,14 @@ fn read_sight(s: &[u8], from: usize, k: usize, shape: &mut [i64], strides: &mut 
 }
 
 // A list, of the tile or of the traversal, and the tensor view after it.
-fn read_scene(s: &[u8], from: usize, tile: bool, list: &mut [i32], shape: &mut [i64], strides: &mut [i64]) -> Scene
+fn read_scene(
+    s: &[u8],
+    from: usize,
+    tile: bool,
+    list: &mut [i32],
+    shape: &mut [i64],
+    strides: &mut [i64],
+) -> Scene
     requires { ⌜ place (now s) from ≤ length (now s) ⌝ }
     requires { ⌜ now list ≡ padded 8 [] ⌝ }
     requires { ⌜ now shape ≡ padded 8 [] ⌝ }
@@ -124,7 +131,14 @@ fn read_sparse(s: &[u8], from: usize) -> Num32
     }
 }
 
-pub(crate) fn read_partition(s: &[u8], from: usize, shape: &mut [i64], strides: &mut [i64], tile: &mut [i32], map: &mut [i32]) -> View
+pub(crate) fn read_partition(
+    s: &[u8],
+    from: usize,
+    shape: &mut [i64],
+    strides: &mut [i64],
+    tile: &mut [i32],
+    map: &mut [i32],
+) -> View
     requires { ⌜ place (now s) from ≤ length (now s) ⌝ }
     requires { ⌜ now shape ≡ padded 8 [] ⌝ }
     requires { ⌜ now strides ≡ padded 8 [] ⌝ }
@@ -146,7 +160,13 @@ pub(crate) fn read_partition(s: &[u8], from: usize, shape: &mut [i64], strides: 
     }
 }
 
-pub(crate) fn read_gather(s: &[u8], from: usize, shape: &mut [i64], strides: &mut [i64], tile: &mut [i32]) -> View
+pub(crate) fn read_gather(
+    s: &[u8],
+    from: usize,
+    shape: &mut [i64],
+    strides: &mut [i64],
+    tile: &mut [i32],
+) -> View
     requires { ⌜ place (now s) from ≤ length (now s) ⌝ }
     requires { ⌜ now shape ≡ padded 8 [] ⌝ }
     requires { ⌜ now strides ≡ padded 8 [] ⌝ }
@@ -167,7 +187,15 @@ pub(crate) fn read_gather(s: &[u8], from: usize, shape: &mut [i64], strides: &mu
     }
 }
 
-pub(crate) fn read_strided(s: &[u8], from: usize, shape: &mut [i64], strides: &mut [i64], tile: &mut [i32], map: &mut [i32], walk: &mut [i32]) -> View
+pub(crate) fn read_strided(
+    s: &[u8],
+    from: usize,
+    shape: &mut [i64],
+    strides: &mut [i64],
+    tile: &mut [i32],
+    map: &mut [i32],
+    walk: &mut [i32],
+) -> View
     requires { ⌜ place (now s) from ≤ length (now s) ⌝ }
     requires { ⌜ now shape ≡ padded 8 [] ⌝ }
     requires { ⌜ now strides ≡ padded 8 [] ⌝ }
@@ -177,7 +205,13 @@ pub(crate) fn read_strided(s: &[u8], from: usize, shape: &mut [i64], strides: &m
     ensures { λ r. ⌜ Told (now (s .entry)) (place (now (s .entry)) from) (next (now (s .entry)) strided from) (shown (now (shape .exit)) (now (strides .exit)) (now (tile .exit)) (now (map .exit)) (now (walk .exit)) r) (r .end) ⌝ }
 {
     let l = read_list32(s, from, true, tile);
-    let k = read_two(s, l.end, b"),", b"traversal_strides=[", b" traversal_strides=[");
+    let k = read_two(
+        s,
+        l.end,
+        b"),",
+        b"traversal_strides=[",
+        b" traversal_strides=[",
+    );
     let c = read_scene(s, k.end, false, walk, shape, strides);
     let sight = c.sight;
     let tensor = sight.tensor;

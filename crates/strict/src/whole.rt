@@ -35,7 +35,15 @@ pub(crate) struct Whole {
 }
 
 // A type that is no view.
-fn made(kind: Kind, pointer: bool, word: usize, marked: bool, shape: usize, strides: usize, end: usize) -> Whole
+fn made(
+    kind: Kind,
+    pointer: bool,
+    word: usize,
+    marked: bool,
+    shape: usize,
+    strides: usize,
+    end: usize,
+) -> Whole
     ensures { λ r. ⌜ r ≡ plainly kind pointer word marked shape strides end ⌝ }
 {
     Whole {
@@ -79,7 +87,16 @@ fn made_view(kind: Kind, v: View) -> Whole
 }
 
 // After the first word `k`: a partition view, a gather-scatter view or a strided view.
-fn on_view(s: &[u8], from: usize, k: usize, shape: &mut [i64], strides: &mut [i64], tile: &mut [i32], map: &mut [i32], walk: &mut [i32]) -> Whole
+fn on_view(
+    s: &[u8],
+    from: usize,
+    k: usize,
+    shape: &mut [i64],
+    strides: &mut [i64],
+    tile: &mut [i32],
+    map: &mut [i32],
+    walk: &mut [i32],
+) -> Whole
     requires { ⌜ place (now s) from ≤ length (now s) ⌝ }
     requires { ⌜ now shape ≡ padded 8 [] ⌝ }
     requires { ⌜ now strides ≡ padded 8 [] ⌝ }
@@ -101,7 +118,14 @@ fn on_view(s: &[u8], from: usize, k: usize, shape: &mut [i64], strides: &mut [i6
 }
 
 // A whole strict form from the start of the text, with the place where it ends or is stuck. Its lists are laid into five blank ones.
-pub(crate) fn read_whole(s: &[u8], shape: &mut [i64], strides: &mut [i64], tile: &mut [i32], map: &mut [i32], walk: &mut [i32]) -> Whole
+pub(crate) fn read_whole(
+    s: &[u8],
+    shape: &mut [i64],
+    strides: &mut [i64],
+    tile: &mut [i32],
+    map: &mut [i32],
+    walk: &mut [i32],
+) -> Whole
     requires { ⌜ now shape ≡ padded 8 [] ⌝ }
     requires { ⌜ now strides ≡ padded 8 [] ⌝ }
     requires { ⌜ now tile ≡ padded 8 [] ⌝ }
@@ -127,7 +151,15 @@ pub(crate) fn read_whole(s: &[u8], shape: &mut [i64], strides: &mut [i64], tile:
     }
     if k.word < 30 {
         let t = read_tensor(s, k.end, shape, strides);
-        return made(Kind::TensorView, false, t.word, t.marked, t.rank, t.len, t.end);
+        return made(
+            Kind::TensorView,
+            false,
+            t.word,
+            t.marked,
+            t.rank,
+            t.len,
+            t.end,
+        );
     }
     on_view(s, k.end, k.word, shape, strides, tile, map, walk)
 }

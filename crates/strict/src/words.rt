@@ -29,10 +29,7 @@ pub(crate) fn peek(s: &[u8], at: usize) -> u8
 pub(crate) fn found(k: usize, at: usize) -> Picked
     ensures { λ r. ⌜ r ≡ ended k at ⌝ }
 {
-    Picked {
-        word: k,
-        end: at,
-    }
+    Picked { word: k, end: at }
 }
 
 // No word goes on at `at`.

@@ -1,21 +1,8 @@
 -- `read_pointer` meets its contract: a name, then what closes the pointer.
 use Rattle.strict.proofs.Chain as H
-use Rattle.strict.proofs.Cursors as K
-use Rattle.strict.specs.Cursor as C
 use Rattle.strict.specs.Inner as I
-use Rattle.strict.specs.Views as Y
-use Rattle.strict.proofs.Insides as L
 use Rattle.strict.specs.Words.{choose, among}
-use Rattle.strict.specs.Lists.{Row, row, nothing}
-use Rattle.lexis.specs.Text.{bytes}
-use Rattle.grammar.specs.Join.{mapped, after}
-use mathlib.Core.Bool.{true, false}
-use mathlib.Core.List.{List}
-use lib.IntN.{ℤ, pos}
-use mir.Syntax.{w32}
-use mir.Val.{toZ, ofZ}
-use Prim.Native.Nat.{ℕ}
-use mathlib.Core.Path.{_≡_, refl, sym, ap, _∙_}
+use mathlib.Core.Path.{_∙_}
 use native.Mathlib.Omega.{arith}
 use borrow.Author.Needs.{needs}
 use Rattle.strict.proofs.inner.read_pointer.Statement.{statement}
@@ -23,7 +10,7 @@ use Rattle.strict.proofs.inner.read_pointer.Tie as tie
 
 returns : tie.Need-returns
 unfolding choose among
-returns c = let a = (c .before .before .before .before .before .before .args) in let s = a .s .now in let n = (c .before .before .before .before .read-name) in let m = (c .before .fork) in let o = n .ensures .onward in let q = m .ensures .onward in
+returns c = let a = c .before .before .before .before .before .before .args in let s = a .s .now in let n = c .before .before .before .before .read-name in let m = c .before .fork in let o = n .ensures .onward in let q = m .ensures .onward in
     record {
       same = H.chain s (choose I.names) (I.closing I.close-both) (n .result .word) (a .from) (n .result .end) (n .ensures .same)
           ∙ H.last s (choose I.close-both) (I.closed (n .result .word)) (m .result .word) (n .result .end) (m .result .end) (m .ensures .same);
@@ -38,5 +25,5 @@ read-pointer-spec =
     (λ c κs. search needs)
     (λ c. search needs)
     (λ c. search needs)
-    (λ c κs. ((c .before .before .read-name) .ensures .inside, tt))
+    (λ c κs. (c .before .before .read-name .ensures .inside, tt))
     returns)

@@ -1,21 +1,11 @@
 -- `read_strides` meets its contract: a list, then what ends the tensor view.
 use Rattle.strict.proofs.Chain as H
-use Rattle.strict.proofs.Cursors as K
-use Rattle.strict.specs.Cursor as C
 use Rattle.strict.specs.Inner as I
-use Rattle.strict.specs.Views as Y
 use Rattle.strict.proofs.Insides as L
 use Rattle.strict.specs.Words.{choose, among}
-use Rattle.strict.specs.Lists.{Row, row, nothing}
-use Rattle.lexis.specs.Text.{bytes}
-use Rattle.grammar.specs.Join.{mapped, after}
-use mathlib.Core.Bool.{true, false}
-use mathlib.Core.List.{List}
-use lib.IntN.{ℤ, pos}
-use mir.Syntax.{w32}
-use mir.Val.{toZ, ofZ}
-use Prim.Native.Nat.{ℕ}
-use mathlib.Core.Path.{_≡_, refl, sym, ap, _∙_}
+use Rattle.strict.specs.Lists.{row}
+use Rattle.grammar.specs.Join.{mapped}
+use mathlib.Core.Path.{_∙_}
 use native.Mathlib.Omega.{arith}
 use borrow.Author.Needs.{needs}
 use Rattle.strict.proofs.inner.read_strides.Statement.{statement}
@@ -23,7 +13,7 @@ use Rattle.strict.proofs.inner.read_strides.Tie as tie
 
 returns : tie.Need-returns
 unfolding choose among
-returns c = let a = (c .before .before .before .before .before .before .before .before .before .args) in let s = a .s .now in let n = (c .before .before .before .before .before .before .read-list64) in let m = (c .before .read-two) in let l = row (n .last .1 .1 .0) (n .result .len) in let o = n .ensures .onward in let q = m .ensures .onward in
+returns c = let a = c .before .before .before .before .before .before .before .before .before .args in let s = a .s .now in let n = c .before .before .before .before .before .before .read-list64 in let m = c .before .read-two in let l = row (n .last .1 .1 .0) (n .result .len) in let o = n .ensures .onward in let q = m .ensures .onward in
     record {
       same = L.listed-is s (a .from) ∙ H.chain s I.strides (λ l r. mapped (I.rest-of l) (choose I.brackets r)) l (a .from) (n .result .end) (n .ensures .same)
           ∙ H.last s (choose I.brackets) (I.rest-of l) (m .result .word) (n .result .end) (m .result .end) (m .ensures .same);
@@ -39,6 +29,6 @@ read-strides-spec =
     (λ c. search needs)
     (λ c. search needs)
     (λ c. search needs)
-    (λ c κs. ((c .before .before .before .before .read-list64) .ensures .inside, tt))
+    (λ c κs. (c .before .before .before .before .read-list64 .ensures .inside, tt))
     (λ c. search needs)
     returns)

@@ -1,21 +1,11 @@
 -- `read_tensor` meets its contract: dimensions, a name, what follows it.
 use Rattle.strict.proofs.Chain as H
-use Rattle.strict.proofs.Cursors as K
-use Rattle.strict.specs.Cursor as C
 use Rattle.strict.specs.Inner as I
-use Rattle.strict.specs.Views as Y
 use Rattle.strict.proofs.Insides as L
-use Rattle.strict.specs.Words.{choose, among}
-use Rattle.strict.specs.Lists.{Row, row, nothing}
-use Rattle.lexis.specs.Text.{bytes}
+use Rattle.strict.specs.Words.{choose}
+use Rattle.strict.specs.Lists.{row}
 use Rattle.grammar.specs.Join.{mapped, after}
-use mathlib.Core.Bool.{true, false}
-use mathlib.Core.List.{List}
-use lib.IntN.{ℤ, pos}
-use mir.Syntax.{w32}
-use mir.Val.{toZ, ofZ}
-use Prim.Native.Nat.{ℕ}
-use mathlib.Core.Path.{_≡_, refl, sym, ap, _∙_}
+use mathlib.Core.Path.{_∙_}
 use native.Mathlib.Omega.{arith}
 use borrow.Author.Needs.{needs}
 use Rattle.strict.proofs.inner.read_tensor.Statement.{statement}
@@ -30,7 +20,7 @@ read-tensor-spec =
     (λ c κs. search needs)
     (λ c. search needs)
     (λ c. search needs)
-    (λ c. let a = (c .before .before .before .before .before .before .before .before .args) in let s = a .s .now in let n = (c .before .before .before .before .before .read-shape) in let w = (c .before .before .before .read-name) in let m = (c .before .read-rest) in let l = row (n .last .1 .1 .0) (n .result .len) in let o = n .ensures .onward in let p = w .ensures .onward in let q = m .ensures .onward in
+    (λ c. let a = c .before .before .before .before .before .before .before .before .args in let s = a .s .now in let n = c .before .before .before .before .before .read-shape in let w = c .before .before .before .read-name in let m = c .before .read-rest in let l = row (n .last .1 .1 .0) (n .result .len) in let o = n .ensures .onward in let p = w .ensures .onward in let q = m .ensures .onward in
     record {
       same = L.tensor-is s (a .from)
           ∙ H.chain s I.shape (λ l r. after (λ k x. mapped (I.tens-of l k) (I.rest (l .len) x)) (choose I.names r)) l (a .from) (n .result .end) (n .ensures .same)

@@ -1,21 +1,10 @@
 -- `read_tile` meets its contract: dimensions, then the element.
 use Rattle.strict.proofs.Chain as H
-use Rattle.strict.proofs.Cursors as K
-use Rattle.strict.specs.Cursor as C
 use Rattle.strict.specs.Inner as I
-use Rattle.strict.specs.Views as Y
 use Rattle.strict.proofs.Insides as L
-use Rattle.strict.specs.Words.{choose, among}
-use Rattle.strict.specs.Lists.{Row, row, nothing}
-use Rattle.lexis.specs.Text.{bytes}
-use Rattle.grammar.specs.Join.{mapped, after}
-use mathlib.Core.Bool.{true, false}
-use mathlib.Core.List.{List}
-use lib.IntN.{ℤ, pos}
-use mir.Syntax.{w32}
-use mir.Val.{toZ, ofZ}
-use Prim.Native.Nat.{ℕ}
-use mathlib.Core.Path.{_≡_, refl, sym, ap, _∙_}
+use Rattle.strict.specs.Lists.{row}
+use Rattle.grammar.specs.Join.{mapped}
+use mathlib.Core.Path.{_∙_}
 use native.Mathlib.Omega.{arith}
 use borrow.Author.Needs.{needs}
 use Rattle.strict.proofs.inner.read_tile.Statement.{statement}
@@ -28,7 +17,7 @@ read-tile-spec =
     (λ c κs. search needs)
     (λ c κs. search needs)
     (λ c. search needs)
-    (λ c. let a = (c .before .before .before .before .before .args) in let s = a .s .now in let n = (c .before .before .read-shape) in let m = (c .read-core) in let l = row (n .last .1 .1 .0) (n .result .len) in let o = n .ensures .onward in let q = m .ensures .onward in
+    (λ c. let a = c .before .before .before .before .before .args in let s = a .s .now in let n = c .before .before .read-shape in let m = c .read-core in let l = row (n .last .1 .1 .0) (n .result .len) in let o = n .ensures .onward in let q = m .ensures .onward in
     record {
       same = L.tile-is s (a .from) ∙ H.chain s I.shape (λ l r. mapped (I.tile-of l) (I.core r)) l (a .from) (n .result .end) (n .ensures .same)
           ∙ H.last s I.core (I.tile-of l) (I.cored (m .result)) (n .result .end) (m .result .end) (m .ensures .same);

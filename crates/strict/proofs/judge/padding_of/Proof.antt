@@ -1,5 +1,4 @@
 -- `padding_of` meets its contract: its table is the definition's.
-use mathlib.Core.Path.{_∙_}
 use borrow.Author.Needs.{needs}
 use borrow.Author.Tests.{not-true, not-false}
 use Rattle.meaning.specs.declared.Padding.the-variants.{Absent, Zero}

@@ -1,14 +1,9 @@
 -- `put32` meets its contract: a store past the end changes nothing.
-use Rattle.strict.proofs.Listing as L
-use Rattle.strict.proofs.Items as I
-use Rattle.strict.proofs.Cursors as H
-use Rattle.strict.specs.Cursor as C
-use lib.ListN.{set, length}
+use lib.ListN.{set}
 use lib.Seq.{set-out}
 use mir.ValLaws.{toZ-ofZ}
 use mir.Syntax.{w32}
-use mathlib.Core.Path.{_≡_, refl, sym, ap, _∙_}
-use native.Mathlib.Omega.{arith}
+use mathlib.Core.Path.{sym, ap}
 use borrow.Author.Needs.{needs}
 use Rattle.strict.proofs.list.put32.Statement.{statement}
 use Rattle.strict.proofs.list.put32.Tie as tie
@@ -20,5 +15,5 @@ put32-spec =
     (λ c. search needs)
     (λ c. search needs)
     (λ c. search needs)
-    (λ c. let a = (c .before .args) in ap (set (a .out .now) (a .n)) (toZ-ofZ w32 _ ((c .before .fits) .v)))
-    (λ c. let a = (c .before .args) in sym (set-out (a .out .now) (a .n) (a .v) (search needs))))
+    (λ c. let a = c .before .args in ap (set (a .out .now) (a .n)) (toZ-ofZ w32 _ (c .before .fits .v)))
+    (λ c. let a = c .before .args in sym (set-out (a .out .now) (a .n) (a .v) (search needs))))

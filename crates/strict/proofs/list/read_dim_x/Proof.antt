@@ -1,27 +1,15 @@
 -- `read_dim_x` meets its contract: a dimension, then the word `x`.
-use Rattle.strict.proofs.Listing as L
-use Rattle.strict.proofs.Items as I
 use Rattle.strict.proofs.Cursors as H
 use Rattle.strict.specs.Cursor as C
-use Rattle.strict.specs.Lists.{Row, row, nothing, pushed, pushes}
-use Rattle.strict.specs.Rows.{commas32, xs32, commas64, dims64, tail32, list32, list64}
-use Rattle.strict.specs.Words.{next}
-use Rattle.strict.proofs.Items.{goes}
 use Rattle.grammar.specs.Join.{mapped, after}
-use Rattle.grammar.specs.Piece.{member}
-use Rattle.grammar.specs.Several.{figs?}
-use borrow.Author.Tests.{not-true, not-false}
-use lib.IntN.{ℤ, pos}
-use mathlib.Core.Bool.{false}
-use mathlib.Core.List.{List}
+use lib.IntN.{ℤ}
 use mir.Syntax.{w64}
 use mir.Val.{toZ, ofZ}
-use lib.ListN.{drop, length, set}
-use Prim.Native.Nat.{ℕ, _+_, _-_, _≤_, _<_, _^_}
+use Prim.Native.Nat.{ℕ}
 use Rattle.strict.specs.Words.{choose, among}
 use Rattle.lexis.specs.Text.{bytes}
 use Rattle.strict.proofs.Chain as K
-use mathlib.Core.Path.{_≡_, refl, sym, ap, _∙_}
+use mathlib.Core.Path.{_≡_, sym, ap, _∙_}
 use native.Mathlib.Omega.{arith}
 use borrow.Author.Needs.{needs}
 use Rattle.strict.proofs.list.read_dim_x.Statement.{statement}
@@ -29,9 +17,9 @@ use Rattle.strict.proofs.list.read_dim_x.Tie as tie
 
 returns : tie.Need-returns
 unfolding choose among
-returns c = let a = (c .before .before .before .before .before .args) in let s = a .s .now in let n = (c .before .before .before .read-dim) in let w = (c .before .read-word) in let v = n .result .value in let o = n .ensures .onward in let q = w .ensures .onward in let z : toZ w64 (ofZ w64 v) ≡ v = search needs in let p = H.place-past s (a .at) ((c .before .before .before .before .before .pre)) in
+returns c = let a = c .before .before .before .before .before .args in let s = a .s .now in let n = c .before .before .before .read-dim in let w = c .before .read-word in let v = n .result .value in let o = n .ensures .onward in let q = w .ensures .onward in let z : toZ w64 (ofZ w64 v) ≡ v = search needs in let p = H.place-past s (a .at) (c .before .before .before .before .before .pre) in
     record {
-      same = sym (H.next-past s (λ t. after (λ z r. mapped (λ (k : ℕ). z) (choose (bytes "x|") r)) (C.dimension t)) (a .at) ((c .before .before .before .before .before .pre))) ∙ K.chain s C.dimension (λ z r. mapped (λ (k : ℕ). z) (choose (bytes "x|") r)) v (a .at) (n .result .end) (H.next-past s C.dimension (a .at) ((c .before .before .before .before .before .pre)) ∙ n .ensures .same)
+      same = sym (H.next-past s (λ t. after (λ z r. mapped (λ (k : ℕ). z) (choose (bytes "x|") r)) (C.dimension t)) (a .at) (c .before .before .before .before .before .pre)) ∙ K.chain s C.dimension (λ z r. mapped (λ (k : ℕ). z) (choose (bytes "x|") r)) v (a .at) (n .result .end) (H.next-past s C.dimension (a .at) (c .before .before .before .before .before .pre) ∙ n .ensures .same)
           ∙ K.last s (choose (bytes "x|")) (λ (k : ℕ). v) (w .result .word) (n .result .end) (w .result .end) (w .ensures .same)
           ∙ ap (λ (y : ℤ). C.valued s y (w .result .end)) (sym z);
       inside = w .ensures .inside;

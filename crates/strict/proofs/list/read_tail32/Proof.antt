@@ -1,26 +1,10 @@
 -- `read_tail32` meets its contract: the byte after the first entry tells.
-use Rattle.strict.proofs.Listing as L
 use Rattle.strict.proofs.Items as I
-use Rattle.strict.proofs.Cursors as H
-use Rattle.strict.specs.Cursor as C
-use Rattle.strict.specs.Lists.{Row, row, nothing, pushed, pushes}
-use Rattle.strict.specs.Rows.{commas32, xs32, commas64, dims64, tail32, list32, list64}
-use Rattle.strict.specs.Words.{next}
-use Rattle.strict.proofs.Items.{goes}
-use Rattle.grammar.specs.Join.{mapped, after}
-use Rattle.grammar.specs.Piece.{member}
-use Rattle.grammar.specs.Several.{figs?}
+use Rattle.strict.specs.Lists.{row, pushes}
+use Rattle.grammar.specs.Join.{mapped}
 use borrow.Author.Tests.{not-true, not-false}
-use lib.IntN.{ℤ, pos}
-use mathlib.Core.Bool.{false}
-use mathlib.Core.List.{List}
-use mir.Syntax.{w32}
-use mir.Val.{toZ, ofZ}
-use lib.ListN.{drop, length, set}
-use Prim.Native.Nat.{ℕ, _+_, _-_, _≤_, _<_, _^_}
 use Rattle.strict.proofs.Tree.{ahead}
-use mathlib.Core.Path.{_≡_, refl, sym, ap, _∙_}
-use native.Mathlib.Omega.{arith}
+use mathlib.Core.Path.{sym, ap, _∙_}
 use borrow.Author.Needs.{needs}
 use Rattle.strict.proofs.list.read_tail32.Statement.{statement}
 use Rattle.strict.proofs.list.read_tail32.Tie as tie
@@ -31,11 +15,11 @@ read-tail32-spec =
     (tie.spec
     (λ c κs. search needs)
     (λ c. search needs)
-    (λ c. let a = (c .before .before .before .before .before .args) in let e = (c .before .read-commas32) .ensures in record { same = ap (mapped (pushes (row (a .out .now) 1))) (I.tail-plain (a .s .now) (a .at) (a .x) (not-true _ ((c .before .before .before .if1) .taken))) ∙ e .same; inside = e .inside; onward = e .onward })
+    (λ c. let a = c .before .before .before .before .before .args in let e = c .before .read-commas32 .ensures in record { same = ap (mapped (pushes (row (a .out .now) 1))) (I.tail-plain (a .s .now) (a .at) (a .x) (not-true _ (c .before .before .before .if1 .taken))) ∙ e .same; inside = e .inside; onward = e .onward })
     (λ c κs. search needs)
     (λ c κs. search needs)
     (λ c. search needs)
-    (λ c. let a = (c .before .before .before .before .before .before .before .args) in let e = (c .before .read-xs32) .ensures in record { same = ap (mapped (pushes (row (a .out .now) 1))) (let k = sym ((c .before .before .before .before .peek) .ensures) ∙ (c .before .before .before .if2) .taken in I.tail-x (a .s .now) (a .at) (a .x) (not-false _ ((c .before .before .before .before .before .if1) .left)) (ahead (a .s .now) (a .at) 120 k tt) k) ∙ e .same; inside = e .inside; onward = e .onward })
+    (λ c. let a = c .before .before .before .before .before .before .before .args in let e = c .before .read-xs32 .ensures in record { same = ap (mapped (pushes (row (a .out .now) 1))) (let k = sym (c .before .before .before .before .peek .ensures) ∙ c .before .before .before .if2 .taken in I.tail-x (a .s .now) (a .at) (a .x) (not-false _ (c .before .before .before .before .before .if1 .left)) (ahead (a .s .now) (a .at) 120 k tt) k) ∙ e .same; inside = e .inside; onward = e .onward })
     (λ c κs. search needs)
     (λ c. search needs)
-    (λ c. let a = (c .before .before .before .before .before .before .before .args) in let e = (c .before .read-commas322) .ensures in record { same = ap (mapped (pushes (row (a .out .now) 1))) (I.tail-other (a .s .now) (a .at) (a .x) (not-false _ ((c .before .before .before .before .before .if1) .left)) (λ q. (c .before .before .before .if2) .left ((c .before .before .before .before .peek) .ensures ∙ q))) ∙ e .same; inside = e .inside; onward = e .onward }))
+    (λ c. let a = c .before .before .before .before .before .before .before .args in let e = c .before .read-commas322 .ensures in record { same = ap (mapped (pushes (row (a .out .now) 1))) (I.tail-other (a .s .now) (a .at) (a .x) (not-false _ (c .before .before .before .before .before .if1 .left)) (λ q. c .before .before .before .if2 .left (c .before .before .before .before .peek .ensures ∙ q))) ∙ e .same; inside = e .inside; onward = e .onward }))

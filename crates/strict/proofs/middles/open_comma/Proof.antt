@@ -1,17 +1,10 @@
 -- `open_comma` meets its contract: the space tells.
 use Rattle.strict.proofs.Cursors as C
 use Rattle.strict.proofs.Tree as L
-use Rattle.lexis.specs.Text.{bytes}
 use Rattle.strict.specs.Words as W
 use Rattle.strict.specs.Inner as I
-use Rattle.strict.specs.Whole as M
-use Rattle.strict.specs.Views as Y
-use Rattle.grammar.specs.Table.{_↝_, advance}
-use mathlib.Core.List.{[], _∷_}
-use lib.ListN.{drop, length, getD}
-use Prim.Native.Nat.{_+_, _-_, _≤_, _<_}
-use mathlib.Core.Path.{_≡_, refl, sym, ap, _∙_}
-use native.Mathlib.Omega.{arith}
+use Rattle.grammar.specs.Table.{advance}
+use mathlib.Core.Path.{sym, _∙_}
 use borrow.Author.Needs.{needs}
 use Rattle.strict.proofs.middles.open_comma.Statement.{statement}
 use Rattle.strict.proofs.middles.open_comma.Tie as tie
@@ -21,13 +14,13 @@ open-comma-spec =
     tie.close
     (tie.spec
     (λ c κs. search needs)
-    (λ c. L.idle ((c .before .before .before .args) .s .now) (W.among (advance 44 (W.entries I.opened))) ((c .before .before .before .args) .from) ((c .found) .result) (search needs) ((c .before .before .before .pre)) ((c .found) .ensures))
+    (λ c. let a = c .before .before .before .args in L.idle (a .s .now) (W.among (advance 44 (W.entries I.opened))) (a .from) (c .found .result) (search needs) (c .before .before .before .pre) (c .found .ensures))
     (λ c κs. search needs)
     (λ c. search needs)
     (λ c. search needs)
     (λ c. search needs)
-    (λ c κs. (L.within-place ((c .before .before .before .before .before .before .args) .s .now) ((c .before .before .before .before .before .before .args) .from) 32 (sym ((c .before .before .before .peek) .ensures) ∙ (c .before .before .if2) .taken) tt, tt))
-    (λ c. C.begin ((c .before .before .before .before .before .before .before .args) .s .now) (W.among (advance 44 (W.entries I.opened))) ((c .before .before .before .before .before .before .before .args) .from) (search needs) (L.down-next ((c .before .before .before .before .before .before .before .args) .s .now) ((c .before .before .before .before .before .before .before .args) .from) 32 (advance 44 (W.entries I.opened)) (sym ((c .before .before .before .before .peek) .ensures) ∙ (c .before .before .before .if2) .taken) tt ((c .fork) .ensures)))
+    (λ c κs. let a = c .before .before .before .before .before .before .args in let k = sym (c .before .before .before .peek .ensures) ∙ c .before .before .if2 .taken in (L.within-place (a .s .now) (a .from) 32 k tt, tt))
+    (λ c. let a = c .before .before .before .before .before .before .before .args in let k = sym (c .before .before .before .before .peek .ensures) ∙ c .before .before .before .if2 .taken in C.begin (a .s .now) (W.among (advance 44 (W.entries I.opened))) (a .from) (search needs) (L.down-next (a .s .now) (a .from) 32 (advance 44 (W.entries I.opened)) k tt (c .fork .ensures)))
     (λ c. search needs)
     (λ c κs. search needs)
-    (λ c. C.begin ((c .before .before .before .before .before .before .args) .s .now) (W.among (advance 44 (W.entries I.opened))) ((c .before .before .before .before .before .before .args) .from) (search needs) (L.but ((c .before .before .before .before .before .before .args) .s .now) ((c .before .before .before .before .before .before .args) .from) 32 (advance 44 (W.entries I.opened)) (λ q. (c .before .before .if2) .left ((c .before .before .before .peek) .ensures ∙ q)) ((c .fit) .ensures))))
+    (λ c. let a = c .before .before .before .before .before .before .args in C.begin (a .s .now) (W.among (advance 44 (W.entries I.opened))) (a .from) (search needs) (L.but (a .s .now) (a .from) 32 (advance 44 (W.entries I.opened)) (λ q. c .before .before .if2 .left (c .before .before .before .peek .ensures ∙ q)) (c .fit .ensures))))

@@ -1,16 +1,11 @@
 -- `open_view` meets its contract: a padding by its first byte, else a tensor view.
-use Rattle.strict.proofs.Cursors as C
 use Rattle.strict.proofs.Tree as L
 use Rattle.lexis.specs.Text.{bytes}
-use Rattle.strict.specs.Words as W
-use Rattle.strict.specs.Inner as I
-use Rattle.strict.specs.Whole as M
 use Rattle.strict.specs.Views as Y
-use Rattle.grammar.specs.Table.{_↝_, advance}
-use mathlib.Core.List.{[], _∷_}
-use lib.ListN.{drop, length, getD}
-use Prim.Native.Nat.{_+_, _-_, _≤_, _<_}
-use mathlib.Core.Path.{_≡_, refl, sym, ap, _∙_}
+use Rattle.grammar.specs.Table.{_↝_}
+use mathlib.Core.List.{_∷_}
+use Prim.Native.Nat.{_+_}
+use mathlib.Core.Path.{sym, _∙_}
 use native.Mathlib.Omega.{arith}
 use borrow.Author.Needs.{needs}
 use Rattle.strict.proofs.middles.open_view.Statement.{statement}
@@ -23,8 +18,8 @@ open-view-spec =
     (λ c κs. search needs)
     (λ c. search needs)
     (λ c. search needs)
-    (λ c κs. let h = L.within ((c .before .before .before .before .args) .s .now) ((c .before .before .before .before .args) .at) 112 (sym ((c .before .before .peek) .ensures) ∙ (c .before .if1) .taken) tt in omega arith)
-    (λ c. L.down ((c .before .before .before .before .before .args) .s .now) ((c .before .before .before .before .before .args) .at) 112 ((bytes "padding_value=" ↝ ((c .before .before .before .before .before .args) .k)) ∷ Y.tensors (((c .before .before .before .before .before .args) .k) + 2)) (sym ((c .before .before .before .peek) .ensures) ∙ (c .before .before .if1) .taken) tt ((c .fit) .ensures))
+    (λ c κs. let a = c .before .before .before .before .args in let k = sym (c .before .before .peek .ensures) ∙ c .before .if1 .taken in let h = L.within (a .s .now) (a .at) 112 k tt in omega arith)
+    (λ c. let a = c .before .before .before .before .before .args in let k = sym (c .before .before .before .peek .ensures) ∙ c .before .before .if1 .taken in L.down (a .s .now) (a .at) 112 ((bytes "padding_value=" ↝ (a .k)) ∷ Y.tensors ((a .k) + 2)) k tt (c .fit .ensures))
     (λ c. search needs)
-    (λ c κs. ((c .before .before .before .pre) .0, let h = (c .before .before .before .pre) .1 in omega arith))
-    (λ c. L.but ((c .before .before .before .before .args) .s .now) ((c .before .before .before .before .args) .at) 112 ((bytes "padding_value=" ↝ ((c .before .before .before .before .args) .k)) ∷ Y.tensors (((c .before .before .before .before .args) .k) + 2)) (λ q. (c .before .if1) .left ((c .before .before .peek) .ensures ∙ q)) ((c .open-tensor) .ensures)))
+    (λ c κs. (c .before .before .before .pre .0, let h = c .before .before .before .pre .1 in omega arith))
+    (λ c. let a = c .before .before .before .before .args in L.but (a .s .now) (a .at) 112 ((bytes "padding_value=" ↝ (a .k)) ∷ Y.tensors ((a .k) + 2)) (λ q. c .before .if1 .left (c .before .before .peek .ensures ∙ q)) (c .open-tensor .ensures)))

@@ -1,16 +1,9 @@
 -- `pad` meets its contract: each byte leaves the words that go on with it.
-use Rattle.strict.proofs.Cursors as C
 use Rattle.strict.proofs.Tree as L
-use Rattle.lexis.specs.Text.{bytes}
 use Rattle.strict.specs.Words as W
-use Rattle.strict.specs.Inner as I
-use Rattle.strict.specs.Whole as M
 use Rattle.strict.specs.Views as Y
-use Rattle.grammar.specs.Table.{_↝_, advance}
 use mathlib.Core.List.{[], _∷_}
-use lib.ListN.{drop, length, getD}
-use Prim.Native.Nat.{_+_, _-_, _≤_, _<_}
-use mathlib.Core.Path.{_≡_, refl, sym, ap, _∙_}
+use mathlib.Core.Path.{sym, _∙_}
 use native.Mathlib.Omega.{arith}
 use borrow.Author.Needs.{needs}
 use Rattle.strict.proofs.middles.pad.Statement.{statement}
@@ -22,15 +15,15 @@ pad-spec =
     (tie.spec
     (λ c κs. search needs)
     (λ c. search needs)
-    (λ c κs. let h = L.within ((c .before .before .before .args) .s .now) ((c .before .before .before .args) .at) 110 (sym ((c .before .peek) .ensures) ∙ (c .match) .keys1) tt in omega arith)
+    (λ c κs. let a = c .before .before .before .args in let k = sym (c .before .peek .ensures) ∙ c .match .keys1 in let h = L.within (a .s .now) (a .at) 110 k tt in omega arith)
     (λ c. search needs)
     (λ c. search needs)
-    (λ c κs. let h = L.within ((c .before .before .before .before .args) .s .now) ((c .before .before .before .before .args) .at) 112 (sym ((c .before .before .peek) .ensures) ∙ (c .before .match) .keys2) tt in omega arith)
+    (λ c κs. let a = c .before .before .before .before .args in let k = sym (c .before .before .peek .ensures) ∙ c .before .match .keys2 in let h = L.within (a .s .now) (a .at) 112 k tt in omega arith)
     (λ c. search needs)
     (λ c. search needs)
-    (λ c κs. let h = L.within ((c .before .before .before .before .args) .s .now) ((c .before .before .before .before .args) .at) 122 (sym ((c .before .before .peek) .ensures) ∙ (c .before .match) .keys3) tt in omega arith)
+    (λ c κs. let a = c .before .before .before .before .args in let k = sym (c .before .before .peek .ensures) ∙ c .before .match .keys3 in let h = L.within (a .s .now) (a .at) 122 k tt in omega arith)
     (λ c κs. search needs)
-    (λ c. L.down ((c .before .before .before .before .args) .s .now) ((c .before .before .before .before .args) .at) 110 (W.entries Y.pads) (sym ((c .before .before .peek) .ensures) ∙ (c .before .match) .keys1) tt ((c .pad-n) .ensures))
-    (λ c. L.down ((c .before .before .before .before .before .args) .s .now) ((c .before .before .before .before .before .args) .at) 112 (W.entries Y.pads) (sym ((c .before .before .before .peek) .ensures) ∙ (c .before .before .match) .keys2) tt ((c .fit) .ensures))
-    (λ c. L.down ((c .before .before .before .before .before .args) .s .now) ((c .before .before .before .before .before .args) .at) 122 (W.entries Y.pads) (sym ((c .before .before .before .peek) .ensures) ∙ (c .before .before .match) .keys3) tt ((c .fit2) .ensures))
-    (λ c. L.stop ((c .before .before .before .before .args) .s .now) ((c .before .before .before .before .args) .at) (W.entries Y.pads) (110 ∷ 112 ∷ 122 ∷ []) ((c .none) .result) tt ((c .before .before .before .before .pre)) ((λ q. (c .before .match) .rest .0 .0 .1 ((c .before .before .peek) .ensures ∙ q)), ((λ q. (c .before .match) .rest .0 .1 ((c .before .before .peek) .ensures ∙ q)), ((λ q. (c .before .match) .rest .1 ((c .before .before .peek) .ensures ∙ q)), tt))) ((c .none) .ensures)))
+    (λ c. let a = c .before .before .before .before .args in let k = sym (c .before .before .peek .ensures) ∙ c .before .match .keys1 in L.down (a .s .now) (a .at) 110 (W.entries Y.pads) k tt (c .pad-n .ensures))
+    (λ c. let a = c .before .before .before .before .before .args in let k = sym (c .before .before .before .peek .ensures) ∙ c .before .before .match .keys2 in L.down (a .s .now) (a .at) 112 (W.entries Y.pads) k tt (c .fit .ensures))
+    (λ c. let a = c .before .before .before .before .before .args in let k = sym (c .before .before .before .peek .ensures) ∙ c .before .before .match .keys3 in L.down (a .s .now) (a .at) 122 (W.entries Y.pads) k tt (c .fit2 .ensures))
+    (λ c. let a = c .before .before .before .before .args in L.stop (a .s .now) (a .at) (W.entries Y.pads) (110 ∷ 112 ∷ 122 ∷ []) (c .none .result) tt (c .before .before .before .before .pre) ((λ q. c .before .match .rest .0 .0 .1 (c .before .before .peek .ensures ∙ q)), ((λ q. c .before .match .rest .0 .1 (c .before .before .peek .ensures ∙ q)), ((λ q. c .before .match .rest .1 (c .before .before .peek .ensures ∙ q)), tt))) (c .none .ensures)))

@@ -1,16 +1,10 @@
 -- `pad_n` meets its contract: `nan` by its second byte, else one of two.
-use Rattle.strict.proofs.Cursors as C
 use Rattle.strict.proofs.Tree as L
 use Rattle.lexis.specs.Text.{bytes}
 use Rattle.strict.specs.Words as W
-use Rattle.strict.specs.Inner as I
-use Rattle.strict.specs.Whole as M
 use Rattle.strict.specs.Views as Y
-use Rattle.grammar.specs.Table.{_↝_, advance}
-use mathlib.Core.List.{[], _∷_}
-use lib.ListN.{drop, length, getD}
-use Prim.Native.Nat.{_+_, _-_, _≤_, _<_}
-use mathlib.Core.Path.{_≡_, refl, sym, ap, _∙_}
+use Rattle.grammar.specs.Table.{advance}
+use mathlib.Core.Path.{sym, _∙_}
 use native.Mathlib.Omega.{arith}
 use borrow.Author.Needs.{needs}
 use Rattle.strict.proofs.middles.pad_n.Statement.{statement}
@@ -23,11 +17,11 @@ pad-n-spec =
     (λ c κs. search needs)
     (λ c. search needs)
     (λ c. search needs)
-    (λ c κs. let h = L.within ((c .before .before .before .before .args) .s .now) ((c .before .before .before .before .args) .at) 97 (sym ((c .before .before .peek) .ensures) ∙ (c .before .if1) .taken) tt in omega arith)
-    (λ c. L.down ((c .before .before .before .before .before .args) .s .now) ((c .before .before .before .before .before .args) .at) 97 (advance 110 (W.entries Y.pads)) (sym ((c .before .before .before .peek) .ensures) ∙ (c .before .before .if1) .taken) tt ((c .fit) .ensures))
+    (λ c κs. let a = c .before .before .before .before .args in let k = sym (c .before .before .peek .ensures) ∙ c .before .if1 .taken in let h = L.within (a .s .now) (a .at) 97 k tt in omega arith)
+    (λ c. let a = c .before .before .before .before .before .args in let k = sym (c .before .before .before .peek .ensures) ∙ c .before .before .if1 .taken in L.down (a .s .now) (a .at) 97 (advance 110 (W.entries Y.pads)) k tt (c .fit .ensures))
     (λ c. search needs)
     (λ c κs. (c .before .before .before .before .pre))
     (λ c. search needs)
     (λ c. search needs)
-    (λ c κs. ((c .before .before .fit2) .ensures .inside, tt))
-    (λ c. L.but ((c .before .before .before .before .before .before .before .before .args) .s .now) ((c .before .before .before .before .before .before .before .before .args) .at) 97 (advance 110 (W.entries Y.pads)) (λ q. (c .before .before .before .before .before .if1) .left ((c .before .before .before .before .before .before .peek) .ensures ∙ q)) (L.via ((c .before .before .before .before .before .before .before .before .args) .s .now) ((c .before .before .before .before .before .before .before .before .args) .at) (bytes "eg_") (L.others 97 (advance 110 (W.entries Y.pads))) tt ((c .before .before .before .fit2) .ensures) ((c .fork) .ensures))))
+    (λ c κs. (c .before .before .fit2 .ensures .inside, tt))
+    (λ c. let a = c .before .before .before .before .before .before .before .before .args in L.but (a .s .now) (a .at) 97 (advance 110 (W.entries Y.pads)) (λ q. c .before .before .before .before .before .if1 .left (c .before .before .before .before .before .before .peek .ensures ∙ q)) (L.via (a .s .now) (a .at) (bytes "eg_") (L.others 97 (advance 110 (W.entries Y.pads))) tt (c .before .before .before .fit2 .ensures) (c .fork .ensures))))

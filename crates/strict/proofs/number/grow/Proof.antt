@@ -3,7 +3,7 @@ use Rattle.strict.proofs.Numbers as L
 use Rattle.grammar.specs.Number as N
 use lib.ListN.{length, drop}
 use Prim.Native.Nat.{_≤_, _-_, _+_}
-use mathlib.Core.Path.{_≡_, refl, sym, _∙_}
+use mathlib.Core.Path.{_≡_, refl, _∙_}
 use borrow.Author.Needs.{needs}
 use Rattle.strict.proofs.number.grow.Statement.{statement}
 use Rattle.strict.proofs.number.grow.Tie as tie

@@ -1,13 +1,8 @@
 -- `space` meets its contract, by the laws of Numbers.
 use Rattle.strict.proofs.Numbers as L
-use Rattle.strict.specs.Cursor as C
-use mathlib.Core.Path.{_≡_, refl, sym, ap, subst, _∙_}
-use native.Mathlib.Omega.{arith}
 use borrow.Author.Needs.{needs}
 use Rattle.strict.proofs.number.space.Statement.{statement}
 use Rattle.strict.proofs.number.space.Tie as tie
-use Rattle.strict.proofs.number.space.Reads as reads
-use Rattle.strict.proofs.number.space.Lts as lts
 
 returns : tie.Need-returns
 returns c = let a = c .before .args in record { same = L.space-end (a .s .now) (a .at) (search needs); inside = search needs; onward = search needs }

@@ -1,21 +1,13 @@
 -- `read_map` meets its contract: its word, a list, the end.
 use Rattle.strict.proofs.Chain as H
-use Rattle.strict.proofs.Cursors as K
-use Rattle.strict.specs.Cursor as C
-use Rattle.strict.specs.Inner as I
 use Rattle.strict.specs.Views as Y
 use Rattle.strict.proofs.Viewing as L
 use Rattle.strict.specs.Words.{choose, among}
-use Rattle.strict.specs.Lists.{Row, row, nothing}
+use Rattle.strict.specs.Lists.{row}
 use Rattle.lexis.specs.Text.{bytes}
-use Rattle.grammar.specs.Join.{mapped, after}
-use mathlib.Core.Bool.{true, false}
-use mathlib.Core.List.{List}
-use lib.IntN.{ℤ, pos}
-use mir.Syntax.{w32}
-use mir.Val.{toZ, ofZ}
+use mathlib.Core.Bool.{false}
 use Prim.Native.Nat.{ℕ}
-use mathlib.Core.Path.{_≡_, refl, sym, ap, _∙_}
+use mathlib.Core.Path.{_∙_}
 use native.Mathlib.Omega.{arith}
 use borrow.Author.Needs.{needs}
 use Rattle.strict.proofs.view.read_map.Statement.{statement}
@@ -23,7 +15,7 @@ use Rattle.strict.proofs.view.read_map.Tie as tie
 
 returns : tie.Need-returns
 unfolding choose among
-returns c = let a = (c .before .before .before .before .before .before .before .before .before .before .args) in let s = a .s .now in let k = (c .before .before .before .before .before .read-two) in let n = (c .before .before .before .read-list32) in let m = (c .read-word) in let l = row (n .last .1 .1 .1 .0) (n .result .len) in let o = k .ensures .onward in let p = n .ensures .onward in let q = m .ensures .onward in
+returns c = let a = c .before .before .before .before .before .before .before .before .before .before .args in let s = a .s .now in let k = c .before .before .before .before .before .read-two in let n = c .before .before .before .read-list32 in let m = c .read-word in let l = row (n .last .1 .1 .1 .0) (n .result .len) in let o = k .ensures .onward in let p = n .ensures .onward in let q = m .ensures .onward in
     record {
       same = L.map-is s (a .from) ∙ H.chain s (choose Y.maps) Y.map-from (k .result .word) (a .from) (k .result .end) (k .ensures .same)
           ∙ H.chain s (Y.entries false) Y.map-tail l (k .result .end) (n .result .end) (n .ensures .same)
@@ -39,8 +31,8 @@ read-map-spec =
     (λ c. search needs)
     (λ c. search needs)
     (λ c. search needs)
-    (λ c κs. ((c .before .before .before .before .pre) .0, tt))
-    (λ c κs. ((c .before .read-two) .ensures .inside, (c .before .before .before .before .before .before .pre) .1))
+    (λ c κs. (c .before .before .before .before .pre .0, tt))
+    (λ c κs. (c .before .read-two .ensures .inside, c .before .before .before .before .before .before .pre .1))
     (λ c. search needs)
     (λ c κs. search needs)
     (λ c. search needs)

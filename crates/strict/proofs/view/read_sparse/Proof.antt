@@ -1,21 +1,15 @@
 -- `read_sparse` meets its contract: its word, a numeral, the end.
 use Rattle.strict.proofs.Chain as H
-use Rattle.strict.proofs.Cursors as K
 use Rattle.strict.specs.Cursor as C
-use Rattle.strict.specs.Inner as I
 use Rattle.strict.specs.Views as Y
 use Rattle.strict.proofs.Viewing as L
 use Rattle.strict.specs.Words.{choose, among}
-use Rattle.strict.specs.Lists.{Row, row, nothing}
 use Rattle.lexis.specs.Text.{bytes}
-use Rattle.grammar.specs.Join.{mapped, after}
-use mathlib.Core.Bool.{true, false}
-use mathlib.Core.List.{List}
-use lib.IntN.{ℤ, pos}
+use lib.IntN.{ℤ}
 use mir.Syntax.{w32}
 use mir.Val.{toZ, ofZ}
 use Prim.Native.Nat.{ℕ}
-use mathlib.Core.Path.{_≡_, refl, sym, ap, _∙_}
+use mathlib.Core.Path.{_≡_, sym, ap, _∙_}
 use native.Mathlib.Omega.{arith}
 use borrow.Author.Needs.{needs}
 use Rattle.strict.proofs.view.read_sparse.Statement.{statement}
@@ -23,7 +17,7 @@ use Rattle.strict.proofs.view.read_sparse.Tie as tie
 
 returns : tie.Need-returns
 unfolding choose among
-returns c = let a = (c .before .before .before .before .before .before .before .before .before .args) in let s = a .s .now in let k = (c .before .before .before .before .read-two) in let n = (c .before .before .before .read-small) in let m = (c .before .read-word) in let v = n .result .value in let o = k .ensures .onward in let p = n .ensures .onward in let q = m .ensures .onward in let z : toZ w32 (ofZ w32 v) ≡ v = search needs in
+returns c = let a = c .before .before .before .before .before .before .before .before .before .args in let s = a .s .now in let k = c .before .before .before .before .read-two in let n = c .before .before .before .read-small in let m = c .before .read-word in let v = n .result .value in let o = k .ensures .onward in let p = n .ensures .onward in let q = m .ensures .onward in let z : toZ w32 (ofZ w32 v) ≡ v = search needs in
     record {
       same = L.sparse-is s (a .from) ∙ H.chain s (choose Y.sparses) Y.sparse-from (k .result .word) (a .from) (k .result .end) (k .ensures .same)
           ∙ H.chain s Y.small Y.sparse-tail v (k .result .end) (n .result .end) (n .ensures .same)

@@ -1,21 +1,14 @@
 -- `read_strided` meets its contract: the tile, its word, the traversal with its tensor view, the map.
 use Rattle.strict.proofs.Chain as H
-use Rattle.strict.proofs.Cursors as K
-use Rattle.strict.specs.Cursor as C
-use Rattle.strict.specs.Inner as I
 use Rattle.strict.specs.Views as Y
 use Rattle.strict.proofs.Viewing as L
 use Rattle.strict.specs.Words.{choose, among}
-use Rattle.strict.specs.Lists.{Row, row, nothing}
-use Rattle.lexis.specs.Text.{bytes}
+use Rattle.strict.specs.Lists.{row}
 use Rattle.grammar.specs.Join.{mapped, after}
 use mathlib.Core.Bool.{true, false}
-use mathlib.Core.List.{List}
-use lib.IntN.{ℤ, pos}
-use mir.Syntax.{w32}
-use mir.Val.{toZ, ofZ}
+use lib.IntN.{pos}
 use Prim.Native.Nat.{ℕ}
-use mathlib.Core.Path.{_≡_, refl, sym, ap, _∙_}
+use mathlib.Core.Path.{_∙_}
 use native.Mathlib.Omega.{arith}
 use borrow.Author.Needs.{needs}
 use Rattle.strict.proofs.view.read_strided.Statement.{statement}
@@ -23,7 +16,7 @@ use Rattle.strict.proofs.view.read_strided.Tie as tie
 
 returns : tie.Need-returns
 unfolding choose among
-returns c = let a = (c .before .before .before .before .before .before .before .before .before .before .before .before .before .before .before .before .before .before .before .before .args) in let s = a .s .now in let t = (c .before .before .before .before .before .before .before .before .before .before .before .before .before .before .before .before .before .read-list32) in let k = (c .before .before .before .before .before .before .before .before .before .before .before .before .read-two) in let n = (c .before .before .before .before .before .before .before .before .read-scene) in let m = (c .before .read-map) in let v = Y.staged (n .last .1 .1 .1 .0) (n .last .1 .1 .1 .1 .0) (n .last .1 .1 .1 .1 .1 .0) (n .result) in let d = n .result .sight .tensor .end in let l = row (t .last .1 .1 .1 .0) (t .result .len) in
+returns c = let a = c .before .before .before .before .before .before .before .before .before .before .before .before .before .before .before .before .before .before .before .before .args in let s = a .s .now in let t = c .before .before .before .before .before .before .before .before .before .before .before .before .before .before .before .before .before .read-list32 in let k = c .before .before .before .before .before .before .before .before .before .before .before .before .read-two in let n = c .before .before .before .before .before .before .before .before .read-scene in let m = c .before .read-map in let v = Y.staged (n .last .1 .1 .1 .0) (n .last .1 .1 .1 .1 .0) (n .last .1 .1 .1 .1 .1 .0) (n .result) in let d = n .result .sight .tensor .end in let l = row (t .last .1 .1 .1 .0) (t .result .len) in
     let o = t .ensures .onward in let p = k .ensures .onward in let q = n .ensures .onward in let r = m .ensures .onward in
     record {
       same = L.strided-is s (a .from)
@@ -39,13 +32,13 @@ pub read-strided-spec : {M : Type 1} → statement M
 read-strided-spec =
     tie.close
     (tie.spec
-    (λ c κs. (((c .before .before .pre) .0), ((c .before .before .pre) .1 .1 .1 .0)))
+    (λ c κs. ((c .before .before .pre .0), (c .before .before .pre .1 .1 .1 .0)))
     (λ c. search needs)
     (λ c. search needs)
     (λ c. search needs)
-    (λ c κs. ((c .before .before .before .before .read-list32) .ensures .inside, tt))
-    (λ c κs. ((c .before .before .before .read-two) .ensures .inside, (((c .before .before .before .before .before .before .before .before .before .before .before .pre) .1 .1 .1 .1 .1), (((c .before .before .before .before .before .before .before .before .before .before .before .pre) .1 .0), ((c .before .before .before .before .before .before .before .before .before .before .before .pre) .1 .1 .0)))))
-    (λ c κs. ((c .before .before .before .before .before .before .read-scene) .ensures .inside, ((c .before .before .before .before .before .before .before .before .before .before .before .before .before .before .before .before .before .before .pre) .1 .1 .1 .1 .0)))
+    (λ c κs. (c .before .before .before .before .read-list32 .ensures .inside, tt))
+    (λ c κs. (c .before .before .before .read-two .ensures .inside, ((c .before .before .before .before .before .before .before .before .before .before .before .pre .1 .1 .1 .1 .1), ((c .before .before .before .before .before .before .before .before .before .before .before .pre .1 .0), (c .before .before .before .before .before .before .before .before .before .before .before .pre .1 .1 .0)))))
+    (λ c κs. (c .before .before .before .before .before .before .read-scene .ensures .inside, (c .before .before .before .before .before .before .before .before .before .before .before .before .before .before .before .before .before .before .pre .1 .1 .1 .1 .0)))
     (λ c. search needs)
     (λ c. search needs)
     (λ c. search needs)

@@ -1,16 +1,11 @@
 -- `fit` meets its contract: what is left of the word against what is left of the text.
-use Rattle.strict.proofs.Cursors as C
 use Rattle.strict.proofs.Tree as L
-use Rattle.lexis.specs.Text.{bytes}
 use Rattle.strict.specs.Words as W
-use Rattle.strict.specs.Inner as I
-use Rattle.strict.specs.Whole as M
-use Rattle.strict.specs.Views as Y
-use Rattle.grammar.specs.Table.{_↝_, advance}
+use Rattle.grammar.specs.Table.{_↝_}
 use mathlib.Core.List.{[], _∷_}
-use lib.ListN.{drop, length, getD}
-use Prim.Native.Nat.{_+_, _-_, _≤_, _<_}
-use mathlib.Core.Path.{_≡_, refl, sym, ap, _∙_}
+use lib.ListN.{drop, length}
+use Prim.Native.Nat.{_-_, _≤_}
+use mathlib.Core.Path.{_≡_, refl, _∙_}
 use native.Mathlib.Omega.{arith}
 use borrow.Author.Needs.{needs}
 use Rattle.strict.proofs.words.fit.Statement.{statement}
@@ -29,15 +24,15 @@ fit-spec =
     Inv-loop
     μ-loop
     (λ c. (search needs, search needs, search needs, refl))
-    (λ c κs. let l = (c .before .before .loop) in let a = (c .before .before .before .before .before .args) in let h = l .inv .0 in omega arith)
-    (λ c. let l = (c .before .before .before .loop) in let a = (c .before .before .before .before .before .before .args) in L.stays ((c .before .before .before .before .before .before .args) .s .now) ((c .before .before .before .before .before .before .args) .at) (W.among ((a .w .now ↝ a .k) ∷ []) (drop (a .at) (a .s .now))) (l .i) ((c .none) .result) ((c .none) .ensures) (search needs) (search needs) (l .inv .3 ∙ L.fit-end ((c .before .before .before .before .before .before .args) .s .now) (a .w .now) (l .i) (l .j) (a .k) (search needs) (search needs)))
+    (λ c κs. let l = c .before .before .loop in let a = c .before .before .before .before .before .args in let h = l .inv .0 in omega arith)
+    (λ c. let a = c .before .before .before .before .before .before .args in let l = c .before .before .before .loop in let a = c .before .before .before .before .before .before .args in L.stays (a .s .now) (a .at) (W.among ((a .w .now ↝ a .k) ∷ []) (drop (a .at) (a .s .now))) (l .i) (c .none .result) (c .none .ensures) (search needs) (search needs) (l .inv .3 ∙ L.fit-end (a .s .now) (a .w .now) (l .i) (l .j) (a .k) (search needs) (search needs)))
     (λ c. search needs)
     (λ c. search needs)
-    (λ c κs. let l = (c .before .before .before .before .before .loop) in let a = (c .before .before .before .before .before .before .before .before .args) in let h = l .inv .0 in omega arith)
-    (λ c. let l = (c .before .before .before .before .before .before .loop) in let a = (c .before .before .before .before .before .before .before .before .before .args) in L.stays ((c .before .before .before .before .before .before .before .before .before .args) .s .now) ((c .before .before .before .before .before .before .before .before .before .args) .at) (W.among ((a .w .now ↝ a .k) ∷ []) (drop (a .at) (a .s .now))) (l .i) ((c .none2) .result) ((c .none2) .ensures) (search needs) (search needs) (l .inv .3 ∙ L.fit-off ((c .before .before .before .before .before .before .before .before .before .args) .s .now) (a .w .now) (l .i) (l .j) (a .k) (search needs) (search needs) ((c .before .if2) .taken)))
+    (λ c κs. let l = c .before .before .before .before .before .loop in let a = c .before .before .before .before .before .before .before .before .args in let h = l .inv .0 in omega arith)
+    (λ c. let a = c .before .before .before .before .before .before .before .before .before .args in let l = c .before .before .before .before .before .before .loop in let a = c .before .before .before .before .before .before .before .before .before .args in L.stays (a .s .now) (a .at) (W.among ((a .w .now ↝ a .k) ∷ []) (drop (a .at) (a .s .now))) (l .i) (c .none2 .result) (c .none2 .ensures) (search needs) (search needs) (l .inv .3 ∙ L.fit-off (a .s .now) (a .w .now) (l .i) (l .j) (a .k) (search needs) (search needs) (c .before .if2 .taken)))
     (λ c. search needs)
     (λ c. search needs)
-    (λ c. let l = (c .before .before .before .before .before .loop) in let a = (c .before .before .before .before .before .before .before .before .args) in omega arith)
-    (λ c. let l = (c .before .before .before .before .before .loop) in let a = (c .before .before .before .before .before .before .before .before .args) in (search needs, search needs, search needs, l .inv .3 ∙ L.fit-on ((c .before .before .before .before .before .before .before .before .args) .s .now) (a .w .now) (l .i) (l .j) (a .k) (search needs) (search needs) ((c .if2) .left)))
+    (λ c. let l = c .before .before .before .before .before .loop in let a = c .before .before .before .before .before .before .before .before .args in omega arith)
+    (λ c. let a = c .before .before .before .before .before .before .before .before .args in let l = c .before .before .before .before .before .loop in let a = c .before .before .before .before .before .before .before .before .args in (search needs, search needs, search needs, l .inv .3 ∙ L.fit-on (a .s .now) (a .w .now) (l .i) (l .j) (a .k) (search needs) (search needs) (c .if2 .left)))
     (λ c κs. search needs)
-    (λ c. let l = (c .before .before .loop) in let a = (c .before .before .before .before .before .args) in L.comes ((c .before .before .before .before .before .args) .s .now) ((c .before .before .before .before .before .args) .at) (W.among ((a .w .now ↝ a .k) ∷ []) (drop (a .at) (a .s .now))) (l .i) (a .k) ((c .found) .result) ((c .found) .ensures) (search needs) (search needs) (l .inv .3 ∙ L.fit-done ((c .before .before .before .before .before .args) .s .now) (a .w .now) (l .i) (l .j) (a .k) (search needs))))
+    (λ c. let a = c .before .before .before .before .before .args in let l = c .before .before .loop in let a = c .before .before .before .before .before .args in L.comes (a .s .now) (a .at) (W.among ((a .w .now ↝ a .k) ∷ []) (drop (a .at) (a .s .now))) (l .i) (a .k) (c .found .result) (c .found .ensures) (search needs) (search needs) (l .inv .3 ∙ L.fit-done (a .s .now) (a .w .now) (l .i) (l .j) (a .k) (search needs))))

@@ -1,9 +1,6 @@
 -- `none` meets its contract: the end is that of its call.
-use Rattle.strict.proofs.Cursors as C
-use Rattle.strict.proofs.Tree as L
 use Rattle.strict.specs.Words.{ended}
-use mathlib.Core.Path.{_≡_, refl, sym, ap, _∙_}
-use native.Mathlib.Omega.{arith}
+use mathlib.Core.Path.{ap}
 use borrow.Author.Needs.{needs}
 use Rattle.strict.proofs.words.none.Statement.{statement}
 use Rattle.strict.proofs.words.none.Tie as tie
@@ -13,4 +10,4 @@ none-spec =
     tie.close
     (tie.spec
     (λ c κs. search needs)
-    (λ c. ap (λ e. ended 0 e) ((c .stuck) .ensures)))
+    (λ c. ap (λ e. ended 0 e) (c .stuck .ensures)))
