@@ -9,5 +9,6 @@ pub mod Marking
 pub mod Removal
 pub mod Repeating
 pub mod Sights
+pub mod Spotting
 pub mod Tiling
 pub mod Unique

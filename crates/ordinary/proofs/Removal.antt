@@ -11,7 +11,7 @@ use lib.ListN.{length, take, drop, set, getD, length-set, length-append, length-
 use lib.Seq.{take-suc, take-suc-set, take-all, length-take-le}
 use Rattle.lexis.specs.Text.{Text, bytes, if_then_else_, begins, after, Cut, nowhere, at, later, cut, found, place, spot, occurs}
 use Rattle.lexis.specs.declared.text.Found.{Found}
-use Rattle.lexis.specs.declared.text.Found.the-variants.{At}
+use Rattle.lexis.specs.declared.text.Found.the-variants.{At, Nowhere}
 use Rattle.lexis.proofs.Lists.{rest}
 use Rattle.lexis.proofs.Seeking.{after-drop, Reach, reach, cut-at, cut-within, cut-nowhere}
 use Rattle.meaning.specs.Parts.{less-all, remove}
@@ -97,11 +97,15 @@ unfolding mark
 mark-is = refl
 
 -- what the seeker's answer says
-pub seen : {f : Found} {i : ℕ} (t : List ℕ) → spot f ≡ place (cut sought t) → f ≡ At i → place (cut sought t) ≡ some i
-seen t e g = sym e ∙ ap spot g
+module _ {f : Found} (t : List ℕ) (e : spot f ≡ place (cut mark t)) where
+  pub seen : {i : ℕ} → f ≡ At i → place (cut sought t) ≡ some i
+  seen g = ap (λ (m : List ℕ). place (cut m t)) (sym mark-is) ∙ sym e ∙ ap spot g
 
-pub seen-within : {f : Found} {i : ℕ} (t : List ℕ) → spot f ≡ place (cut sought t) → f ≡ At i → i + 27 ≤ length t
-seen-within {i = i} t e g = cut-within sought t i (seen t e g)
+  pub seen-within : {i : ℕ} → f ≡ At i → i + 27 ≤ length t
+  seen-within {i} g = cut-within sought t i (seen g)
+
+  pub unseen : f ≡ Nowhere → place (cut sought t) ≡ none
+  unseen g = ap (λ (m : List ℕ). place (cut m t)) (sym mark-is) ∙ sym e ∙ ap spot g
 
 pub mark-length : length mark ≡ 27
 unfolding mark

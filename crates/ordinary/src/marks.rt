@@ -4,15 +4,41 @@ ghost use Prim.Native.Nat.{_+_, _≤_};
 ghost use mathlib.Core.Path.{_≡_};
 ghost use mathlib.Core.List.{_++_};
 ghost use lib.ListN.{length, take};
-ghost use Rattle.lexis.specs.Text.{if_then_else_, occurs};
+ghost use Rattle.lexis.specs.Text.{if_then_else_, occurs, cut, place, spot};
 ghost use Rattle.meaning.specs.Parts.{remove};
 ghost use Rattle.meaning.specs.Ordinary.{mark};
+
+// The place of the first mark. A mark has a `#`, and its one `>` at its end: by these two it is sought.
+pub(crate) fn find_mark(text: &[u8]) -> Found
+    ensures { λ r. ⌜ spot r ≡ place (cut mark (now (text .entry))) ⌝ }
+{
+    let mut from = 0;
+    loop {
+        let h = lexis::seek(text, from, 35);
+        if text.len() <= h {
+            return Found::Nowhere;
+        }
+        let e = lexis::seek(text, h, 62);
+        if text.len() <= e {
+            return Found::Nowhere;
+        }
+        if from + 26 <= e {
+            if lexis::begins(&text[e - 26..], b", #cuda_tile.ptr_attr<none>") {
+                return Found::At(e - 26);
+            }
+        }
+        from = e + 1;
+    }
+}
 
 // Whether the mark occurs in `text`.
 pub(crate) fn has_mark(text: &[u8]) -> bool
     ensures { λ r. ⌜ r ≡ occurs mark (now (text .entry)) ⌝ }
 {
-    lexis::contains(text, b", #cuda_tile.ptr_attr<none>")
+    match find_mark(text) {
+        Found::At(_) => true,
+        Found::Nowhere => false,
+    }
 }
 
 // Copies `s` into `room` from `at` on, and returns the place after it.
@@ -36,7 +62,7 @@ pub(crate) fn remove(text: &[u8], room: &mut [u8]) -> usize
     let mut n = 0;
     let mut t = text;
     loop {
-        match lexis::find(t, b", #cuda_tile.ptr_attr<none>") {
+        match find_mark(t) {
             Found::At(i) => {
                 n = copy(&t[..i], &mut *room, n);
                 t = &t[i + 27..];
