@@ -1,14 +1,14 @@
 -- What stands in a pointer, a tile and a tensor view, with what ends it, as the code reads it: words by their numbers, lists as rows.
 use Prim.Native.Nat.{ℕ}
 use mathlib.Core.Bool.{Bool, true, false, cond}
-use mathlib.Core.List.{List}
+use mathlib.Core.List.{List, [], _∷_}
 use lib.Dec.{eqb, ltb}
 use lib.IntN.{ℤ}
 use Rattle.lexis.specs.Text.{bytes}
 use Rattle.grammar.specs.Piece.{Answer, got, stuck}
 use Rattle.grammar.specs.Join.{mapped, after}
-use Rattle.grammar.specs.Table.{Entry}
-use Rattle.strict.specs.Words.{choose, entries, advances}
+use Rattle.grammar.specs.Table.{Entry, _↝_}
+use Rattle.strict.specs.Words.{choose, among, entries, advances}
 use Rattle.strict.specs.Rows.{dims64, list64}
 use Rattle.strict.specs.Lists.{Row, row, nothing, pushes}
 use Rattle.strict.specs.declared.inner.Core.{Core}
@@ -59,6 +59,10 @@ closing w k r = mapped (closed k) (choose w r)
 
 abbrev pub pointee : List ℕ → List ℕ → Answer Cored
 pointee w t = after (closing w) (choose names t)
+
+-- the same, of two words
+abbrev pub pointed : List ℕ → List ℕ → List ℕ → Answer Cored
+pointed v w t = after (λ k r. mapped (closed k) (among ((v ↝ 0) ∷ (w ↝ 1) ∷ []) r)) (choose names t)
 
 abbrev pub core-of : ℕ → List ℕ → Answer Cored
 core-of k r = cond (ltb k 22) (mapped (λ (m : ℕ). plain k) (choose (bytes ">|") r)) (pointee close-both r)

@@ -10,14 +10,15 @@ use super::words::read_two;
 use super::words::read_word;
 ghost use mathlib.Core.Path.{_≡_};
 ghost use mathlib.Core.List.{[]};
+ghost use lib.Dec.{T};
 ghost use lib.ListN.{length};
 ghost use Rattle.meaning.specs.Found.{padded};
 ghost use Prim.Native.Nat.{_≤_};
 ghost use Rattle.lexis.specs.Text.{bytes};
 ghost use Rattle.strict.specs.Cursor.{Told, place};
-ghost use Rattle.strict.specs.Words.{next};
+ghost use Rattle.strict.specs.Words.{next, differ};
 ghost use Rattle.strict.specs.Lists.{row};
-ghost use Rattle.strict.specs.Inner.{close, close-both, pointee, core, cored, shape, tile, tiled, listed, rest, rested, tensor, tensed};
+ghost use Rattle.strict.specs.Inner.{pointed, core, cored, shape, tile, tiled, listed, rest, rested, tensor, tensed};
 
 pub(crate) struct Core {
     pub(crate) pointer: bool,
@@ -46,28 +47,14 @@ pub(crate) struct Tensor {
     pub(crate) end: usize,
 }
 
-// What stands in a pointer, and the `>` that closes it.
-pub(crate) fn read_pointee(s: &[u8], from: usize) -> Core
+// What stands in a pointer, and what closes it, without or with the mark.
+pub(crate) fn read_pointee(s: &[u8], from: usize, bare: &[u8], marked: &[u8]) -> Core
     requires { ⌜ place (now s) from ≤ length (now s) ⌝ }
-    ensures { λ r. ⌜ Told (now (s .entry)) (place (now (s .entry)) from) (next (now (s .entry)) (pointee close) from) (cored r) (r .end) ⌝ }
+    requires { ⌜ T (differ (now bare) (now marked)) ⌝ }
+    ensures { λ r. ⌜ Told (now (s .entry)) (place (now (s .entry)) from) (next (now (s .entry)) (pointed (now (bare .entry)) (now (marked .entry))) from) (cored r) (r .end) ⌝ }
 {
     let n = read_name(s, from);
-    let m = fork(s, n.end, b">", 0, b", #cuda_tile.ptr_attr<none>>", 1);
-    Core {
-        pointer: true,
-        word: n.word,
-        marked: m.word == 1,
-        end: m.end,
-    }
-}
-
-// The same with the `>` of a tile around it.
-fn read_pointer(s: &[u8], from: usize) -> Core
-    requires { ⌜ place (now s) from ≤ length (now s) ⌝ }
-    ensures { λ r. ⌜ Told (now (s .entry)) (place (now (s .entry)) from) (next (now (s .entry)) (pointee close-both) from) (cored r) (r .end) ⌝ }
-{
-    let n = read_name(s, from);
-    let m = fork(s, n.end, b">>", 0, b", #cuda_tile.ptr_attr<none>>>", 1);
+    let m = fork(s, n.end, bare, 0, marked, 1);
     Core {
         pointer: true,
         word: n.word,
@@ -91,7 +78,7 @@ fn read_core(s: &[u8], from: usize) -> Core
             end: m.end,
         };
     }
-    read_pointer(s, k.end)
+    read_pointee(s, k.end, b">>", b", #cuda_tile.ptr_attr<none>>>")
 }
 
 // Dimensions, from where a part before them ended.

@@ -141,7 +141,7 @@ pub(crate) fn read_whole(
         return made(Kind::Token, false, 0, false, 0, 0, k.end);
     }
     if k.word < 26 {
-        let c = read_pointee(s, k.end);
+        let c = read_pointee(s, k.end, b">", b", #cuda_tile.ptr_attr<none>>");
         return made(Kind::Pointer, false, c.word, c.marked, 0, 0, c.end);
     }
     if k.word < 28 {

@@ -22,6 +22,16 @@ returns c = let a = c .before .before .before .before .before .before .args in l
       onward = omega arith;
     }
 
+returns-2 : tie.Need-returns-2
+unfolding choose among
+returns-2 c = let a = c .before .before .before .before .before .before .before .args in let s = a .s .now in let n = c .before .before .before .before .before .read-core-name in let m = c .read-pointee in let o = n .ensures .onward in let q = m .ensures .onward in
+    record {
+      same = L.core-is s (a .from) ∙ H.chain s (choose I.kerns) I.core-of (n .result .word) (a .from) (n .result .end) (n .ensures .same)
+          ∙ L.core-point s (n .result .end) (n .result .word) (search needs) ∙ m .ensures .same;
+      inside = m .ensures .inside;
+      onward = omega arith;
+    }
+
 pub read-core-spec : {M : Type 1} → statement M
 read-core-spec =
     tie.close
@@ -30,11 +40,7 @@ read-core-spec =
     (λ c. search needs)
     (λ c κs. search needs)
     returns
-    (λ c κs. search needs)
-    (λ c. let a = c .before .before .before .before .before .args in let s = a .s .now in let n = c .before .before .before .read-core-name in let m = c .read-pointer in let o = n .ensures .onward in let q = m .ensures .onward in
-    record {
-      same = L.core-is s (a .from) ∙ H.chain s (choose I.kerns) I.core-of (n .result .word) (a .from) (n .result .end) (n .ensures .same)
-          ∙ L.core-point s (n .result .end) (n .result .word) (search needs) ∙ m .ensures .same;
-      inside = m .ensures .inside;
-      onward = omega arith;
-    }))
+    (λ c. search needs)
+    (λ c. search needs)
+    (λ c κs. (c .before .before .before .before .read-core-name .ensures .inside, tt))
+    returns-2)
