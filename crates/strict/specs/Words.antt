@@ -1,4 +1,4 @@
--- Tables of words as the code has them: each word is ended by the byte 124; a word is known by its number.
+-- Tables of words: each word is ended by the byte 124, and known by its number. What the code reads of them.
 use Prim.Native.Nat.{ℕ, _+_, _-_}
 use mathlib.Core.Bool.{Bool, true, false, cond, not}
 use mathlib.Core.List.{List, [], _∷_, _++_}
