@@ -11,3 +11,4 @@ pub mod Naming
 pub mod Classes
 pub mod Examples
 pub mod Unique
+pub mod Walking

@@ -30,6 +30,8 @@ use Rattle.lexis.proofs.text.trim_start_matches.Reads as trim-start-mat
 use Rattle.lexis.proofs.text.trim_end_matches.Reads as trim-end-matches
 use Rattle.lexis.proofs.numeral.parse_i64.Reads as parse-i64
 use Rattle.lexis.proofs.numeral.parse_i32.Reads as parse-i32
+use Rattle.lexis.proofs.part.part_i64.Reads as part-i64
+use Rattle.lexis.proofs.part.part_i32.Reads as part-i32
 use Rattle.lexis.proofs.scalar.Scalar.byte_width.Reads as byte-width
 use Rattle.lexis.proofs.scalar.Scalar.is_integer.Reads as is-integer
 use Rattle.lexis.proofs.scalar.Scalar.is_float.Reads as is-float
@@ -132,6 +134,12 @@ parse-i64-one κs a x y s t p q = said64-one x y (p ∙ sym q)
 
 pub parse-i32-one : One parse-i32.Post
 parse-i32-one κs a x y s t p q = said32-one x y (p ∙ sym q)
+
+pub part-i64-one : One part-i64.Post
+part-i64-one κs a x y s t p q = let v = said64-one (x .value) (y .value) (p .1 ∙ sym (q .1)) in let n = p .0 ∙ sym (q .0) in λ i. record { value = v i; len = n i }
+
+pub part-i32-one : One part-i32.Post
+part-i32-one κs a x y s t p q = let v = said32-one (x .value) (y .value) (p .1 ∙ sym (q .1)) in let n = p .0 ∙ sym (q .0) in λ i. record { value = v i; len = n i }
 
 pub parse-scalar-one : One parse-scalar.Post
 parse-scalar-one κs a x y s t p q = said-one x y (p ∙ sym q)

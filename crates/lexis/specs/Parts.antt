@@ -1,17 +1,20 @@
 -- What private helpers answer, for their own contracts: no public contract cites these.
-use Prim.Native.Nat.{ℕ, zero, suc, _+_}
+use Prim.Native.Nat.{ℕ, zero, suc, _+_, _≤_}
 use Prim.Native.Char.{code}
-use mathlib.Core.Bool.{Bool, false, _||_}
+use mathlib.Core.Bool.{Bool, false, _||_, not}
 use mathlib.Core.List.{List, [], _∷_}
 use mathlib.Core.Option.{Option, none, some}
+use mathlib.Core.Path.{_≡_}
 use lib.Dec.{leb, eqb}
 use lib.ListN.{length, take, drop}
-use Rattle.lexis.specs.Text.{Text, if_then_else_, same}
+use Rattle.lexis.specs.Text.{Text, if_then_else_, same, until, white}
 use Rattle.lexis.specs.Numeral.{number}
 use Rattle.lexis.specs.declared.numeral.Magnitude.{Magnitude}
 use Rattle.lexis.specs.declared.numeral.Magnitude.the-variants.{Of, NoDigits}
 use Rattle.lexis.specs.declared.numeral.Size.{Size}
 use Rattle.lexis.specs.declared.numeral.Size.the-variants.{Plus, Minus, Senseless}
+use Rattle.lexis.specs.declared.part.Walked.{Walked}
+use Rattle.lexis.specs.declared.part.Walked.the-variants as W
 
 -- a number of at most `most`
 abbrev pub under : ℕ → Option ℕ → Magnitude
@@ -52,3 +55,18 @@ rows n s = rows-of (length s) n s
 abbrev pub some-of : (ℕ → Bool) → Text → Bool
 some-of p [] = false
 some-of p (b ∷ s) = p b || some-of p s
+
+-- ── parts of a list ──
+
+-- a byte that isn't white
+abbrev pub ink : ℕ → Bool
+ink b = not (white b)
+
+-- a comma, or past the digits
+abbrev pub apart : ℕ → Bool
+apart x = eqb x (code ",") || leb (suc (code "9")) x
+
+-- t up to the first x is digits that write n, at most `most`, and e is its end, where t begins at the place k
+abbrev pub Ran : ℕ → Text → ℕ → ℕ → Walked → Type 0
+Ran x t k most (W.Of n e) = (e ≡ k + length (until (eqb x) t)) × (number (until (eqb x) t) ≡ some n) × (n ≤ most)
+Ran x t k most W.Other = Unit {0}

@@ -97,28 +97,28 @@ fn sized(text: &[u8], most: u64) -> Size
     positive(digits(text, most))
 }
 
-fn plus64(n: u64) -> i64
+pub(crate) fn plus64(n: u64) -> i64
     requires { ⌜ n < 2 ^ 63 ⌝ }
     ensures { λ r. ⌜ r ≡ pos n ⌝ }
 {
     n as i64
 }
 
-fn minus64(n: u64) -> i64
+pub(crate) fn minus64(n: u64) -> i64
     requires { ⌜ n ≤ 2 ^ 63 ⌝ }
     ensures { λ r. ⌜ r ≡ minus n ⌝ }
 {
     if n == 0 { 0 } else { -1 - ((n - 1) as i64) }
 }
 
-fn plus32(n: u64) -> i32
+pub(crate) fn plus32(n: u64) -> i32
     requires { ⌜ n < 2 ^ 31 ⌝ }
     ensures { λ r. ⌜ r ≡ pos n ⌝ }
 {
     n as i32
 }
 
-fn minus32(n: u64) -> i32
+pub(crate) fn minus32(n: u64) -> i32
     requires { ⌜ n ≤ 2 ^ 31 ⌝ }
     ensures { λ r. ⌜ r ≡ minus n ⌝ }
 {

@@ -1,9 +1,22 @@
--- For private contracts: a list with one entry more, and whether there is any.
+-- For private contracts: an entry by its numeral, a list with one entry more, and whether there is any.
 use Prim.Native.Nat.{ℕ, zero, suc, _+_}
+use mathlib.Core.Path.{_≡_}
 use lib.IntN.{ℤ}
 use lib.ListN.{set}
+use Rattle.lexis.specs.Text.{Text, trim}
+use Rattle.lexis.specs.Numeral as N
+use Rattle.lexis.specs.declared.numeral.Number64.{Number64}
+use Rattle.lexis.specs.declared.numeral.Number32.{Number32}
 use Rattle.meaning.specs.Found.{Entry, read, fell}
+use Rattle.meaning.specs.Tile.{read-or}
 use Rattle.lists.specs.Laid.{Laid}
+
+-- v is what s says, trimmed
+abbrev pub Says : Number64 → Text → Type 0
+Says v s = N.said64 v ≡ N.numeral 64 (trim s)
+
+abbrev pub small-by : ℤ → Number32 → Entry
+small-by d v = read-or d (N.said32 v)
 
 -- one value more, and n more that fell back; a place past the end of the values is no place
 abbrev pub put : Laid → ℤ → ℕ → Laid

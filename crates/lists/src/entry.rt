@@ -5,6 +5,7 @@ ghost use mathlib.Core.Path.{_≡_};
 ghost use Rattle.meaning.specs.Tile.{dimension};
 ghost use Rattle.meaning.specs.Views.{small};
 ghost use Rattle.lists.specs.Laid.{said64, said32};
+ghost use Rattle.lists.specs.Push.{Says, small-by};
 
 // A dimension or stride whose size is not statically known.
 pub const DYNAMIC: i64 = -9223372036854775808;
@@ -23,13 +24,22 @@ pub enum Entry32 {
 pub fn parse_dim(s: &[u8]) -> Entry64
     ensures { λ r. ⌜ said64 r ≡ dimension (now (s .entry)) ⌝ }
 {
-    let t = lexis::trim(s);
-    if lexis::same(t, b"?") {
-        return Entry64::Read(DYNAMIC);
-    }
-    match lexis::parse_i64(t) {
-        Number64::Value(v) => Entry64::Read(v),
-        Number64::Unreadable => Entry64::Fell(DYNAMIC),
+    dim_of(s, lexis::parse_i64(lexis::trim(s)))
+}
+
+// The same, where what the trimmed text says as a numeral is known.
+pub(crate) fn dim_of(s: &[u8], v: Number64) -> Entry64
+    requires { ⌜ Says v (now s) ⌝ }
+    ensures { λ r. ⌜ said64 r ≡ dimension (now (s .entry)) ⌝ }
+{
+    match v {
+        Number64::Value(z) => Entry64::Read(z),
+        Number64::Unreadable => {
+            if lexis::same(lexis::trim(s), b"?") {
+                return Entry64::Read(DYNAMIC);
+            }
+            Entry64::Fell(DYNAMIC)
+        }
     }
 }
 
@@ -37,8 +47,15 @@ pub fn parse_dim(s: &[u8]) -> Entry64
 pub fn parse_small(s: &[u8], default: i32) -> Entry32
     ensures { λ r. ⌜ said32 r ≡ small default (now (s .entry)) ⌝ }
 {
-    match lexis::parse_i32(lexis::trim(s)) {
-        Number32::Value(v) => Entry32::Read(v),
+    small_of(lexis::parse_i32(lexis::trim(s)), default)
+}
+
+// What a numeral says, or `default`.
+pub(crate) fn small_of(v: Number32, default: i32) -> Entry32
+    ensures { λ r. ⌜ said32 r ≡ small-by default v ⌝ }
+{
+    match v {
+        Number32::Value(z) => Entry32::Read(z),
         Number32::Unreadable => Entry32::Fell(default),
     }
 }

@@ -1,8 +1,9 @@
 // Lists between separators.
 use super::entry::Entry32;
 use super::entry::Entry64;
-use super::entry::parse_dim;
+use super::entry::dim_of;
 use super::entry::parse_small;
+use super::entry::small_of;
 use super::fill::none32;
 use super::fill::none64;
 use meaning::CAP;
@@ -102,8 +103,10 @@ pub fn parse_dims(s: &[u8], x: u8) -> List64
     let mut t = s;
     let mut l = none64();
     loop {
-        let k = lexis::until(t, x);
-        l = push64(l, parse_dim(&t[..k]));
+        let p = lexis::part_i64(t, x);
+        let k = p.len;
+        let v = p.value;
+        l = push64(l, dim_of(&t[..k], v));
         if t.len() <= k {
             return l;
         }
@@ -118,11 +121,13 @@ pub fn parse_front(s: &[u8]) -> Front
     let mut at = 0;
     let mut l = none64();
     loop {
-        let k = lexis::until(&s[at..], 120);
+        let p = lexis::part_i64(&s[at..], 120);
+        let k = p.len;
         if s.len() - at <= k {
             return Front { dims: l, last: at };
         }
-        l = push64(l, parse_dim(&s[at..at + k]));
+        let v = p.value;
+        l = push64(l, dim_of(&s[at..at + k], v));
         at = at + k + 1;
     }
 }
@@ -134,8 +139,10 @@ pub fn parse_smalls(s: &[u8], x: u8, default: i32) -> List32
     let mut t = s;
     let mut l = none32();
     loop {
-        let k = lexis::until(t, x);
-        l = push32(l, parse_small(&t[..k], default));
+        let p = lexis::part_i32(t, x);
+        let k = p.len;
+        let v = p.value;
+        l = push32(l, small_of(v, default));
         if t.len() <= k {
             return l;
         }

@@ -2,12 +2,14 @@
 use borrow.Author.Needs.{needs}
 use mathlib.Core.Path.{sym}
 use Prim.Native.Nat.{_+_}
+use lib.Dec.{eqb}
 use lib.ListN.{length}
 use lib.Seq.{length-take-le}
 use Rattle.lexis.proofs.Lists.{rest}
 use Rattle.lexis.proofs.Splitting as S
 use Rattle.meaning.specs.Tile.{dimension}
 use Rattle.lists.specs.Laid.{list64}
+use Rattle.lists.proofs.Entries as E
 use Rattle.lists.proofs.Laying as L
 use Rattle.lists.proofs.list.parse_dims.Statement.{statement}
 use Rattle.lists.proofs.list.parse_dims.Tie as tie
@@ -25,17 +27,18 @@ parse-dims-spec =
     (λ c κs. search needs)
     (λ c. L.begun 8 _ _ (c .none64 .ensures))
     (λ c κs. search needs)
-    (λ c. sym (length-take-le _ _ (S.short _ (c .before .before .loop .t .now) _ (c .before .until .ensures))))
-    (λ c κs. search needs)
+    (λ c. sym (length-take-le _ _ (S.short _ (c .before .before .loop .t .now) _ (c .before .part-i64 .ensures .0))))
+    (λ c κs. let p = c .before in let a = p .before .before .before .before .args in
+    E.part-says 64 (eqb (a .x)) (p .before .loop .t .now) (p .part-i64 .ensures .0) (p .part-i64 .ensures .1))
     (λ c κs. search needs)
     (λ c. let u = c .before .before .before .before in let a = c .before .before .before .before .before .before .before .before .args in
-    L.end 8 (a .x) dimension (u .before .loop .inv) (u .until .ensures) (c .before .before .parse-dim .ensures) (c .before .push64 .ensures) (search needs))
+    L.end 8 (a .x) dimension (u .before .loop .inv) (u .part-i64 .ensures .0) (c .before .before .dim-of .ensures) (c .before .push64 .ensures) (search needs))
     (λ c. search needs)
     (λ c. search needs)
     (λ c. search needs)
     (λ c. search needs)
     (λ c. let u = c .before .before .before .before .before in let a = c .before .before .before .before .before .before .before .before .before .args in
-    S.less (a .x) (u .before .loop .t .now) (u .until .result) (search needs))
+    S.less (a .x) (u .before .loop .t .now) (u .part-i64 .result .len) (search needs))
     (λ c. let u = c .before .before .before .before .before in let a = c .before .before .before .before .before .before .before .before .before .args in
-    L.step 8 (a .x) dimension (u .before .loop .inv) (u .until .ensures) (c .before .before .before .parse-dim .ensures) (c .before .before .push64 .ensures)
-    (rest (u .before .loop .t .now) (u .until .result + 1)) (search needs)))
+    L.step 8 (a .x) dimension (u .before .loop .inv) (u .part-i64 .ensures .0) (c .before .before .before .dim-of .ensures) (c .before .before .push64 .ensures)
+    (rest (u .before .loop .t .now) (u .part-i64 .result .len + 1)) (search needs)))

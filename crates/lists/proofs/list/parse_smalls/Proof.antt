@@ -1,10 +1,10 @@
 -- As for dimensions, with the reader of 32-bit entries; the loop sees the default by its bits.
 use borrow.Author.Needs.{needs}
-use mathlib.Core.Path.{sym, ap, _∙_}
+use mathlib.Core.Path.{refl, ap, _∙_}
 use Prim.Native.Nat.{_+_}
 use lib.IntN.{ℤ}
-use lib.ListN.{length}
-use lib.Seq.{length-take-le}
+use lib.Dec.{eqb}
+use lib.ListN.{length, take}
 use mir.Syntax.{w32}
 use mir.Val.{toZ, ofZ}
 use Rattle.lexis.specs.Text.{split}
@@ -12,6 +12,7 @@ use Rattle.lexis.proofs.Lists.{rest}
 use Rattle.lexis.proofs.Splitting as S
 use Rattle.meaning.specs.Views.{small}
 use Rattle.lists.specs.Laid.{laid, list32, smalls}
+use Rattle.lists.proofs.Entries as E
 use Rattle.lists.proofs.Laying as L
 use Rattle.lists.proofs.list.parse_smalls.Statement.{statement}
 use Rattle.lists.proofs.list.parse_smalls.Tie as tie
@@ -29,18 +30,17 @@ parse-smalls-spec =
     (λ c κs. search needs)
     (λ c. L.begun 8 _ _ (c .none32 .ensures))
     (λ c κs. search needs)
-    (λ c. sym (length-take-le _ _ (S.short _ (c .before .before .loop .t .now) _ (c .before .until .ensures))))
     (λ c κs. search needs)
     (λ c κs. search needs)
-    (λ c. let u = c .before .before .before .before in let a = c .before .before .before .before .before .before .before .before .args in
-    L.end 8 (a .x) (small (toZ w32 (ofZ w32 (a .default)))) (u .before .loop .inv) (u .until .ensures) (c .before .before .parse-small .ensures) (c .before .push32 .ensures) (search needs)
+    (λ c. let u = c .before .before .before in let a = u .before .before .before .before .args in
+    L.end 8 (a .x) (small (toZ w32 (ofZ w32 (a .default)))) (u .before .loop .inv) (u .part-i32 .ensures .0) (c .before .before .small-of .ensures ∙ E.number32 _ (take (u .part-i32 .result .len) (u .before .loop .t .now)) refl (E.part-says 32 (eqb (a .x)) (u .before .loop .t .now) (u .part-i32 .ensures .0) (u .part-i32 .ensures .1))) (c .before .push32 .ensures) (search needs)
     ∙ ap (λ (d : ℤ). laid 8 (smalls d (split (a .x) (a .s .now)))) (search needs))
     (λ c. search needs)
     (λ c. search needs)
     (λ c. search needs)
     (λ c. search needs)
-    (λ c. let u = c .before .before .before .before .before in let a = c .before .before .before .before .before .before .before .before .before .args in
-    S.less (a .x) (u .before .loop .t .now) (u .until .result) (search needs))
-    (λ c. let u = c .before .before .before .before .before in let a = c .before .before .before .before .before .before .before .before .before .args in
-    L.step 8 (a .x) (small (toZ w32 (ofZ w32 (a .default)))) (u .before .loop .inv) (u .until .ensures) (c .before .before .before .parse-small .ensures) (c .before .before .push32 .ensures)
-    (rest (u .before .loop .t .now) (u .until .result + 1)) (search needs)))
+    (λ c. let u = c .before .before .before .before in let a = u .before .before .before .before .args in
+    S.less (a .x) (u .before .loop .t .now) (u .part-i32 .result .len) (search needs))
+    (λ c. let u = c .before .before .before .before in let a = u .before .before .before .before .args in
+    L.step 8 (a .x) (small (toZ w32 (ofZ w32 (a .default)))) (u .before .loop .inv) (u .part-i32 .ensures .0) (c .before .before .before .small-of .ensures ∙ E.number32 _ (take (u .part-i32 .result .len) (u .before .loop .t .now)) refl (E.part-says 32 (eqb (a .x)) (u .before .loop .t .now) (u .part-i32 .ensures .0) (u .part-i32 .ensures .1))) (c .before .before .push32 .ensures)
+    (rest (u .before .loop .t .now) (u .part-i32 .result .len + 1)) (search needs)))
