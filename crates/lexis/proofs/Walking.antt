@@ -81,11 +81,10 @@ module _ (x : ℕ) (f : apart x ≡ true) where
   -- ── one digit more, and the end ──
 
   module _ {s : Text} {k i n : ℕ} (g : Running x s k i n) where
-    pub step : i < length s → 48 ≤ getD s i 0 → getD s i 0 ≤ 57 → Running x s k (i + 1) (n * 10 + (getD s i 0 - 48))
-    step h l u =
-        let b = getD s i 0 in
+    pub step : {b : ℕ} → b ≡ getD s i 0 → i < length s → 48 ≤ b → b ≤ 57 → Running x s k (i + 1) (n * 10 + (b - 48))
+    step {b} m h l u =
         let o : (b ≡ 44 → ⊥) = λ e. omega arith in
-        let e : until (eqb x) (drop i s) ≡ b ∷ until (eqb x) (drop (i + 1) s) = rw (view s i h, far b o (omega arith)) in
+        let e : until (eqb x) (drop i s) ≡ b ∷ until (eqb x) (drop (i + 1) s) = rw (view s i h, sym m, far b o (omega arith)) in
         record {
           onward = omega (arith, g .onward);
           len = g .len ∙ ap (λ (v : Text). i + length v) e ∙ omega arith;
@@ -111,7 +110,7 @@ module _ (x : ℕ) (f : apart x ≡ true) where
   pub zero-more : {s : Text} {k i : ℕ} → Running x s k i 0 → i < length s → getD s i 0 ≡ 48 → Running x s k (i + 1) 0
   zero-more {s} {k} {i} g h e =
       let z : 0 * 10 + (getD s i 0 - 48) ≡ 0 = omega arith in
-      subst (λ (m : ℕ). Running x s k (i + 1) m) z (step g h (omega arith) (omega arith))
+      subst (λ (m : ℕ). Running x s k (i + 1) m) z (step g refl h (omega arith) (omega arith))
 
 -- ── what the trimmed part is ──
 

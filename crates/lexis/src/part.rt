@@ -97,6 +97,13 @@ fn apart(x: u8) -> bool
     (x == 44) | (58 <= x)
 }
 
+// The byte as a number of 64 bits.
+fn wide(b: u8) -> u64
+    ensures { λ r. ⌜ r ≡ b ⌝ }
+{
+    b as u64
+}
+
 // The digits from `from` on, if nothing else stands there up to the first `x`, and they write at most `most`.
 fn run(text: &[u8], x: u8, from: usize, most: u64) -> Walked
     requires { ⌜ apart x ≡ true ⌝ }
@@ -111,7 +118,7 @@ fn run(text: &[u8], x: u8, from: usize, most: u64) -> Walked
     }
     let mut n: u64 = 0;
     while i < text.len() {
-        let b = text[i];
+        let b = wide(text[i]);
         if b < 48 {
             break;
         }
@@ -121,7 +128,7 @@ fn run(text: &[u8], x: u8, from: usize, most: u64) -> Walked
         if 922337203685477579 < n {
             return Walked::Other;
         }
-        n = n * 10 + (b - 48) as u64;
+        n = n * 10 + (b - 48);
         i += 1;
     }
     if i == from {

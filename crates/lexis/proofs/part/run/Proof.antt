@@ -27,22 +27,23 @@ run-spec =
     (λ c. search needs)
     (λ c. search needs)
     (λ c. search needs)
-    (λ c. let l = c .before .before .before in L.zero-more _ (l .before .pre) (l .loop .inv) (search needs) (search needs))
+    (λ c. let l = c .before .before .before in L.zero-more _ (l .before .before .pre) (l .loop .inv) (search needs) (search needs))
     (λ c. (c .before .loop .inv, search needs))
     (λ c. search needs)
+    (λ c κs. search needs)
     (λ c. tt)
     (λ c. search needs)
     (λ c. search needs)
     (λ c. search needs)
     (λ c. search needs)
-    (λ c. search needs)
-    (λ c. let l = c .before .before .before .before .before in
-    (L.step _ (l .before .before .before .pre) (l .loop2 .inv .0) (search needs) (search needs) (search needs), search needs))
+    (λ c. let p = c .before .before .before in let l = p .before .before .before in
+    (L.step _ (l .before .before .before .before .pre) (l .loop2 .inv .0) (p .wide .ensures) (search needs) (search needs) (search needs), search needs))
     (λ c. tt)
     (λ c. tt)
     (λ c. search needs)
     (λ c. tt)
     (λ c. let l = c .before .before .before .before .before .before in
-    let w = L.at-next _ (l .before .before .before .pre) (l .loop2 .inv .0) (search needs) (search needs) (c .before .before .before .before .if5 .left) in (w .0, w .1, search needs))
+    let w = L.at-next _ (l .before .before .before .before .pre) (l .loop2 .inv .0) (search needs) (search needs) (c .before .before .before .before .if5 .left) in
+    (w .0, w .1, search needs))
     (λ c. let l = c .before .before .before .before in
-    let w = L.at-end _ (l .before .before .before .pre) (l .loop2 .inv .0) (search needs) (c .before .before .if5 .left) in (w .0, w .1, search needs)))
+    let w = L.at-end _ (l .before .before .before .before .pre) (l .loop2 .inv .0) (search needs) (c .before .before .if5 .left) in (w .0, w .1, search needs)))
