@@ -1,6 +1,7 @@
--- Where the strict reading accepts, the ordinary reading answers the same: the same record, every count zero.
+-- Where the strict reading accepts, the ordinary reading answers the same: the same record, every count zero. So it does where the
+-- strict reading refuses a strict form for too long a list.
 use Prim.Native.Nat.{ℕ, _≤_}
-use mathlib.Core.Bool.{Bool}
+use mathlib.Core.Bool.{Bool, true, false, not}
 use mathlib.Core.Option.{Option, none, some}
 use mathlib.Core.Path.{_≡_, refl, sym, ap, subst, _∙_}
 use lib.Dec.{T, leb, le→leb}
@@ -32,13 +33,25 @@ sure-answer : (cap : ℕ) (a : Any) → T (fits cap a) → answer cap (sure a) �
 unfolding taken
 sure-answer cap a h = ap (λ (b : Bool). if b then taken cap a else refused cap TooMany 0) (is-true (fits cap a) h)
 
-settled : (cap : ℕ) (a : Any) → T (fits cap a) → (o : Option Found) → each shown o ≡ some (sure a) → judged cap o ≡ taken cap a
-settled cap a h none e = cc
-settled cap a h (some t) e = answered cap t ∙ ap (answer cap) (cc e) ∙ sure-answer cap a h
+settled : (cap : ℕ) (a : Any) (o : Option Found) → each shown o ≡ some (sure a) → judged cap o ≡ answer cap (sure a)
+settled cap a none e = cc
+settled cap a (some t) e = answered cap t ∙ ap (answer cap) (cc e)
 
-pub accord : (cap size : ℕ) (s : Text) (a : Any) → Strict s a → length s ≤ size → T (fits cap a) → ordinary cap size s ≡ taken cap a
-unfolding ordinary
-accord cap size s a h k f =
-    ap (λ (b : Bool). if b then read-ascii cap s (high-from 0 s) else refused cap TooLong 0) (is-true (leb (length s) size) (le→leb (length s) size k))
-    ∙ ap (read-ascii cap s) (none-high 0 s (subst (λ (t : Text). T (low t)) (sym (h .text)) (spell-ascii (h .form) .below)))
-    ∙ settled cap a f (parse s) (strict-found s a h)
+module _ (cap size : ℕ) (s : Text) (a : Any) (h : Strict s a) (k : length s ≤ size) where
+  whole : ordinary cap size s ≡ answer cap (sure a)
+  unfolding ordinary
+  whole =
+      ap (λ (b : Bool). if b then read-ascii cap s (high-from 0 s) else refused cap TooLong 0) (is-true (leb (length s) size) (le→leb (length s) size k))
+      ∙ ap (read-ascii cap s) (none-high 0 s (subst (λ (t : Text). T (low t)) (sym (h .text)) (spell-ascii (h .form) .below)))
+      ∙ settled cap a (parse s) (strict-found s a h)
+
+  pub accord : T (fits cap a) → ordinary cap size s ≡ taken cap a
+  accord f = whole ∙ sure-answer cap a f
+
+  -- a strict form with too long a list is refused alike
+  pub accord-many : T (not (fits cap a)) → ordinary cap size s ≡ refused cap TooMany 0
+  accord-many f = whole ∙ by (fits cap a) f
+    where
+      by : (b : Bool) → T (not b) → (if b then record { refusal = Accepted; place = 0; value = flat-any cap a; note = sure a .note } else refused cap TooMany 0) ≡ refused cap TooMany 0
+      by true f = absurd f
+      by false f = refl

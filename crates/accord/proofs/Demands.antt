@@ -13,10 +13,10 @@ use Rattle.lexis.specs.Text.{Text, if_then_else_}
 use Rattle.meaning.specs.declared.Reading.{Reading}
 use Rattle.meaning.specs.declared.Record.{Record}
 use Rattle.meaning.specs.declared.Refusal.{Refusal}
-use Rattle.meaning.specs.declared.Refusal.the-variants.{Accepted, HighByte, TooLong, NotNormal, RoomShort}
+use Rattle.meaning.specs.declared.Refusal.the-variants.{Accepted, TooLong, NotStrict, NotNormal, RoomShort}
 use Rattle.meaning.specs.Refusals.{number}
 use Rattle.meaning.specs.Normal.{normal}
-use Rattle.meaning.specs.Ordinary.{high-from, refused, ordinary}
+use Rattle.meaning.specs.Ordinary.{high-from, refused, read-ascii, ordinary}
 use Rattle.meaning.specs.Meant.{Judged, accepted, too-many, not-strict, Read-ascii, Strictly}
 use Rattle.meaning.specs.Written as W
 use Rattle.grammar.specs.Tests.{is-true}
@@ -25,28 +25,27 @@ use Rattle.writer.proofs.Short.{Ranged}
 use Rattle.writer.proofs.Whens.{When}
 use Rattle.writer.proofs.Back.{answered}
 use Rattle.writer.proofs.Ascii.{read-back}
-use Rattle.accord.proofs.Accord.{accord}
+use Rattle.accord.proofs.Accord.{accord, accord-many}
 
 module _ (cap size : ℕ) (s : Text) where
-  by-judged : length s ≤ size → {r : Reading} → Judged cap s r → r .refusal ≡ Accepted → ordinary cap size s ≡ r
+  by-judged : length s ≤ size → {r : Reading} → Judged cap s r → (r .refusal ≡ NotStrict → ⊥) → ordinary cap size s ≡ r
   unfolding refused
-  by-judged l (accepted a h f) e = accord cap size s a h l f
-  by-judged l (too-many a h f) e = let z = ap number e in let f : ⊥ = omega arith in absurd f
-  by-judged l (not-strict f) e = let z = ap number e in let f : ⊥ = omega arith in absurd f
+  by-judged l (accepted a h f) n = accord cap size s a h l f
+  by-judged l (too-many a h f) n = accord-many cap size s a h l f
+  by-judged l (not-strict f) n = absurd (n refl)
 
-  by-ascii : length s ≤ size → (o : Option ℕ) (r : Reading) → Read-ascii cap s o r → r .refusal ≡ Accepted → ordinary cap size s ≡ r
-  unfolding refused
-  by-ascii l (some place) r h e = let z : number (refused cap HighByte place .refusal) ≡ 0 = ap (λ (q : Reading). number (q .refusal)) (sym h) ∙ ap number e in let f : ⊥ = omega arith in absurd f
-  by-ascii l none r h e = by-judged l h e
+  by-ascii : length s ≤ size → (o : Option ℕ) → high-from 0 s ≡ o → (r : Reading) → Read-ascii cap s o r → (r .refusal ≡ NotStrict → ⊥) → read-ascii cap s o ≡ ordinary cap size s → ordinary cap size s ≡ r
+  by-ascii l (some place) e r h n q = sym q ∙ sym h
+  by-ascii l none e r h n q = by-judged l h n
 
-  -- WHAT THE STRICT READER ACCEPTS, THE ORDINARY READER ANSWERS ALIKE, counts (all zero) included
-  pub strict-ordinary : (r : Reading) → Strictly cap size s r → r .refusal ≡ Accepted → ordinary cap size s ≡ r
-  unfolding refused
-  strict-ordinary r = by (leb (length s) size) (leb→le (length s) size)
+  -- WHAT THE STRICT READER DOESN'T REFUSE WITH 5, THE ORDINARY READER ANSWERS ALIKE: a type, counts (all zero) included; a refusal
+  pub strict-ordinary : (r : Reading) → Strictly cap size s r → (r .refusal ≡ NotStrict → ⊥) → ordinary cap size s ≡ r
+  unfolding ordinary
+  strict-ordinary r = by (leb (length s) size) (leb→le (length s) size) refl
     where
-      by : (b : Bool) → (T b → length s ≤ size) → elim b as (λ _. Type 0) [ true ↦ Read-ascii cap s (high-from 0 s) r | false ↦ r ≡ refused cap TooLong 0 ] → r .refusal ≡ Accepted → ordinary cap size s ≡ r
-      by true l h e = by-ascii (l tt) (high-from 0 s) r h e
-      by false l h e = let z : number (refused cap TooLong 0 .refusal) ≡ 0 = ap (λ (q : Reading). number (q .refusal)) (sym h) ∙ ap number e in let f : ⊥ = omega arith in absurd f
+      by : (b : Bool) → (T b → length s ≤ size) → leb (length s) size ≡ b → elim b as (λ _. Type 0) [ true ↦ Read-ascii cap s (high-from 0 s) r | false ↦ r ≡ refused cap TooLong 0 ] → (r .refusal ≡ NotStrict → ⊥) → ordinary cap size s ≡ r
+      by true l q h n = by-ascii (l tt) (high-from 0 s) refl r h n (sym (ap (λ (b : Bool). if b then read-ascii cap s (high-from 0 s) else refused cap TooLong 0) q))
+      by false l q h n = ap (λ (b : Bool). if b then read-ascii cap s (high-from 0 s) else refused cap TooLong 0) q ∙ sym h
 
 -- ── written, then read ──
 module _ (cap size : ℕ) (r : Record) (room : Text) (h : 1 ≤ cap) (k : 78 * cap + 149 ≤ size) (a : Arrays cap r) (g : Ranged r) where
@@ -76,4 +75,4 @@ module _ (cap size : ℕ) (r : Record) (room : Text) (h : 1 ≤ cap) (k : 78 * c
 
   -- and so by the ordinary reader
   pub written-ordinary : W.writing cap r room .answer .refusal ≡ Accepted → ordinary cap size (stored (W.writing cap r room)) ≡ answered r
-  written-ordinary e = strict-ordinary cap size (stored (W.writing cap r room)) (answered r) (written-strict e) refl
+  written-ordinary e = strict-ordinary cap size (stored (W.writing cap r room)) (answered r) (written-strict e) (λ n. let z = ap number n in let f : ⊥ = omega arith in absurd f)

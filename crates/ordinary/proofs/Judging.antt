@@ -4,7 +4,7 @@ use native.Mathlib.Omega.{arith}
 use mathlib.Core.Bool.{Bool, true, false}
 use mathlib.Core.Option.{Option, none, some}
 use mathlib.Core.Path.{_≡_, refl, sym, ap, _∙_}
-use borrow.Author.Tests.{le-leb, lt-leb, leb-false}
+use borrow.Author.Tests.{le-leb}
 use lib.Dec.{T, leb, leb→le}
 use lib.ListN.{length}
 use Rattle.lexis.specs.Text.{Text}
@@ -13,11 +13,10 @@ use Rattle.meaning.specs.Parts.{each}
 use Rattle.meaning.specs.Ordinary as O
 use Rattle.meaning.specs.Ordinary.{passes, high-from, refused, accepted, read-ascii, ordinary}
 use Rattle.meaning.specs.declared.Reading.{Reading}
-use Rattle.meaning.specs.declared.Refusal.the-variants.{TooLong, HighByte}
+use Rattle.meaning.specs.declared.Refusal.the-variants.{TooLong}
 use Rattle.meaning.specs.Refusals.{number}
-use Rattle.meaning.specs.Meant as M
-use Rattle.meaning.specs.Meant.{Judged, Read-ascii, Strictly}
-use Rattle.accord.proofs.Accord.{accord}
+use Rattle.meaning.specs.Meant.{Read-ascii, Strictly}
+use Rattle.accord.proofs.Demands.{strict-ordinary}
 use Rattle.ordinary.specs.Shown.{Shown, shown, lengths-within, judged}
 
 -- ── the judgement ──
@@ -34,62 +33,39 @@ judged-is (some t) = rw (within-is t)
 -- ── the answer ──
 
 module _ (s : Text) where
-  too-long : 1024 < length s → refused 8 TooLong 0 ≡ ordinary 8 1024 s
-  unfolding ordinary
-  too-long h = rw (lt-leb (length s) 1024 h)
-
   short : length s ≤ 1024 → read-ascii 8 s (high-from 0 s) ≡ ordinary 8 1024 s
   unfolding ordinary
   short h = rw (le-leb (length s) 1024 h)
-
-  high-at : (i : ℕ) → length s ≤ 1024 → high-from 0 s ≡ some i → refused 8 HighByte i ≡ ordinary 8 1024 s
-  high-at i h e = sym (ap (read-ascii 8 s) e) ∙ short h
 
   pub read-on : {x : Reading} {o : Option Shown} → length s ≤ 1024 → high-from 0 s ≡ none → x ≡ judged o → o ≡ each (shown 8) (passes (suc (length s)) s)
       → x ≡ ordinary 8 1024 s
   unfolding O.parse
   read-on h e j p = j ∙ ap judged p ∙ judged-is (passes (suc (length s)) s) ∙ sym (ap (read-ascii 8 s) e) ∙ short h
 
--- ── the strict reading first: refusals 1 and 2, and every strict form within the limits, are answered alike ──
+-- ── the strict reading first: what it doesn't refuse with 5 is answered alike; what it leaves open is short and ASCII ──
 
-module _ (s : Text) where
-  by-form : length s ≤ 1024 → {r : Reading} → Judged 8 s r → number (r .refusal) < 3 → r ≡ ordinary 8 1024 s
+module _ (s : Text) (r : Reading) where
+  pub settled : Strictly 8 1024 s r → (number (r .refusal) ≡ 5 → ⊥) → r ≡ ordinary 8 1024 s
+  settled p n = sym (strict-ordinary 8 1024 s r p (λ e. n (ap number e)))
+
+  pub left-short : Strictly 8 1024 s r → number (r .refusal) ≡ 5 → length s ≤ 1024
   unfolding refused
-  by-form l (M.accepted a h f) k = sym (accord 8 1024 s a h l f)
-  by-form l (M.too-many a h f) k = let z : ⊥ = omega arith in absurd z
-  by-form l (M.not-strict f) k = let z : ⊥ = omega arith in absurd z
-
-  by-ascii : length s ≤ 1024 → (o : Option ℕ) → high-from 0 s ≡ o → (r : Reading) → Read-ascii 8 s o r → number (r .refusal) < 3 → r ≡ ordinary 8 1024 s
-  by-ascii l (some i) e r h k = h ∙ high-at s i l e
-  by-ascii l none e r h k = by-form l h k
-
-  pub settled : (r : Reading) → Strictly 8 1024 s r → number (r .refusal) < 3 → r ≡ ordinary 8 1024 s
-  settled r = by (leb (length s) 1024) (leb→le (length s) 1024) (leb-false (length s) 1024)
-    where
-      by : (b : Bool) → (T b → length s ≤ 1024) → (b ≡ false → 1024 < length s)
-          → elim b as (λ _. Type 0) [ true ↦ Read-ascii 8 s (high-from 0 s) r | false ↦ r ≡ refused 8 TooLong 0 ] → number (r .refusal) < 3 → r ≡ ordinary 8 1024 s
-      by true l g h k = by-ascii (l tt) (high-from 0 s) refl r h k
-      by false l g h k = h ∙ too-long s (g refl)
-
-  -- what it leaves open is short and ASCII
-  pub left-short : (r : Reading) → Strictly 8 1024 s r → (number (r .refusal) < 3 → ⊥) → length s ≤ 1024
-  unfolding refused
-  left-short r = by (leb (length s) 1024) (leb→le (length s) 1024)
+  left-short = by (leb (length s) 1024) (leb→le (length s) 1024)
     where
       by : (b : Bool) → (T b → length s ≤ 1024) → elim b as (λ _. Type 0) [ true ↦ Read-ascii 8 s (high-from 0 s) r | false ↦ r ≡ refused 8 TooLong 0 ]
-          → (number (r .refusal) < 3 → ⊥) → length s ≤ 1024
+          → number (r .refusal) ≡ 5 → length s ≤ 1024
       by true l h n = l tt
-      by false l h n = absurd (n (let e : number (r .refusal) ≡ 1 = ap (λ (x : Reading). number (x .refusal)) h in omega arith))
+      by false l h n = let e : number (r .refusal) ≡ 1 = ap (λ (x : Reading). number (x .refusal)) h in let f : ⊥ = omega arith in absurd f
 
-  pub left-ascii : (r : Reading) → Strictly 8 1024 s r → (number (r .refusal) < 3 → ⊥) → high-from 0 s ≡ none
+  pub left-ascii : Strictly 8 1024 s r → number (r .refusal) ≡ 5 → high-from 0 s ≡ none
   unfolding refused
-  left-ascii r = by (leb (length s) 1024)
+  left-ascii = by (leb (length s) 1024)
     where
-      low : (o : Option ℕ) → Read-ascii 8 s o r → (number (r .refusal) < 3 → ⊥) → o ≡ none
-      low (some i) h n = absurd (n (let e : number (r .refusal) ≡ 2 = ap (λ (x : Reading). number (x .refusal)) h in omega arith))
+      low : (o : Option ℕ) → Read-ascii 8 s o r → number (r .refusal) ≡ 5 → o ≡ none
+      low (some i) h n = let e : number (r .refusal) ≡ 2 = ap (λ (x : Reading). number (x .refusal)) h in let f : ⊥ = omega arith in absurd f
       low none h n = refl
 
       by : (b : Bool) → elim b as (λ _. Type 0) [ true ↦ Read-ascii 8 s (high-from 0 s) r | false ↦ r ≡ refused 8 TooLong 0 ]
-          → (number (r .refusal) < 3 → ⊥) → high-from 0 s ≡ none
+          → number (r .refusal) ≡ 5 → high-from 0 s ≡ none
       by true h n = low (high-from 0 s) h n
-      by false h n = absurd (n (let e : number (r .refusal) ≡ 1 = ap (λ (x : Reading). number (x .refusal)) h in omega arith))
+      by false h n = let e : number (r .refusal) ≡ 1 = ap (λ (x : Reading). number (x .refusal)) h in let f : ⊥ = omega arith in absurd f

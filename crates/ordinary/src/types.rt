@@ -192,13 +192,13 @@ fn judge(p: Parsed) -> Reading
 }
 
 // What `Type::parse` returns, with the default counts; or the refusal 1, 2, 3 or 4, the first that applies. A strict form is read
-// in one walk; any other text as `Type::parse` reads it. Refusals 1 and 2 are those of the strict reader.
+// in one walk; a text that the strict reader refuses with 5 is read as `Type::parse` reads it. Its other answers stand.
 pub fn parse(text: &[u8]) -> Reading
     ensures { λ r. ⌜ r ≡ ordinary 8 1024 (now (text .entry)) ⌝ }
 {
     let r = strict::parse_strict(text);
     let refusal = r.refusal;
-    if refusal.number() < 3 {
+    if refusal.number() != 5 {
         return r;
     }
     judge(parse_marked(text))

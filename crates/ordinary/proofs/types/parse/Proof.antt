@@ -1,6 +1,5 @@
 -- `parse` meets its contract: what the strict reading settles is the answer; else the text is short and ASCII, and is read on.
-use native.Mathlib.Omega.{arith}
-use mathlib.Core.Path.{_≡_}
+use mathlib.Core.Path.{sym, _∙_}
 use borrow.Author.Needs.{needs}
 use Rattle.ordinary.proofs.Judging as L
 use Rattle.ordinary.proofs.types.parse.Statement.{statement}
@@ -12,12 +11,11 @@ parse-spec =
     (tie.spec
     (λ c κs. search needs)
     (λ c κs. search needs)
-    (λ c. let p = c .before .before in let n = c .before .number .ensures in let h = c .if1 .taken in
-    L.settled (p .before .before .args .text .now) _ (p .parse-strict .ensures) (omega arith))
-    (λ c κs. let p = c .before .before in let n = c .before .number .ensures in let h = c .if1 .left in
-    L.left-short (p .before .before .args .text .now) _ (p .parse-strict .ensures) (λ k. omega arith))
+    (λ c. let p = c .before .before in
+    L.settled (p .before .before .args .text .now) _ (p .parse-strict .ensures) (λ e. c .if1 .taken (c .before .number .ensures ∙ e)))
+    (λ c κs. let p = c .before .before in
+    L.left-short (p .before .before .args .text .now) _ (p .parse-strict .ensures) (sym (c .before .number .ensures) ∙ c .if1 .left))
     (λ c κs. search needs)
-    (λ c. let e = c .before .before in let p = e .before .before in let n = e .before .number .ensures in let h = e .if1 .left in
+    (λ c. let e = c .before .before in let p = e .before .before in let n = sym (e .before .number .ensures) ∙ e .if1 .left in
     let s = p .before .before .args .text .now in
-    L.read-on s (L.left-short s _ (p .parse-strict .ensures) (λ k. omega arith)) (L.left-ascii s _ (p .parse-strict .ensures) (λ k. omega arith))
-    (c .judge .ensures) (c .before .parse-marked .ensures)))
+    L.read-on s (L.left-short s _ (p .parse-strict .ensures) n) (L.left-ascii s _ (p .parse-strict .ensures) n) (c .judge .ensures) (c .before .parse-marked .ensures)))
