@@ -3,17 +3,16 @@ use Prim.Native.Nat.{ℕ, _≤_, _<_}
 use native.Mathlib.Omega.{arith}
 use mathlib.Core.Bool.{Bool, true, false, cond}
 use mathlib.Core.List.{List}
-use mathlib.Core.Path.{_≡_, refl, sym, ap, _∙_}
-use lib.Dec.{T, eqb, ltb, lt→ltb, ltb→lt, not-T, eqb-refl}
-use lib.ListN.{drop}
+use mathlib.Core.Path.{_≡_, refl, ap, _∙_}
+use lib.Dec.{eqb, ltb, lt→ltb, ltb→lt, not-T}
 use borrow.Author.Tests.{ne-eqb}
 use Rattle.lexis.specs.Text.{bytes}
 use Rattle.grammar.specs.Tests.{is-true, T-not-eq}
-use Rattle.grammar.specs.Piece.{Answer, got, stuck}
+use Rattle.grammar.specs.Piece.{Answer, got}
 use Rattle.grammar.specs.Join.{mapped, after}
 use Rattle.strict.specs.Cursor.{valued}
 use Rattle.strict.specs.Words.{next, choose}
-use Rattle.strict.specs.Lists.{Row, nothing}
+use Rattle.strict.specs.Lists.{nothing}
 use Rattle.strict.specs.Inner as I
 
 pub lt-true : (k n : ℕ) → k < n → ltb k n ≡ true

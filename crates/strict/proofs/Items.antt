@@ -8,14 +8,13 @@ use lib.Dec.{leb, T, eqb, eqb→eq}
 use lib.IntN.{ℤ, pos, negsuc}
 use Rattle.lexis.specs.Text.{bytes}
 use Rattle.meaning.specs.Decimal.{decimal, in32, in64, dim, size}
-use Rattle.grammar.specs.Tests.{T-not-eq}
 use Rattle.grammar.specs.Piece.{Answer, got, stuck, member}
 use Rattle.grammar.specs.Join.{mapped, after}
 use Rattle.grammar.specs.Table.{pick, _↝_}
 use Rattle.grammar.specs.Number as N
 use Rattle.grammar.specs.Several.{num32, dim64, item, x32, dimx, same, figs?}
 use Rattle.strict.specs.Cursor as C
-use Rattle.strict.specs.Rows.{more, rows, commas32, xs32, commas64, dims64}
+use Rattle.strict.specs.Rows.{more, commas32, xs32, commas64, dims64}
 use Prim.Native.Nat.{_≤_, _<_}
 use native.Mathlib.Omega.{arith}
 use lib.ListN.{drop, length, getD, drop-of-length-le, length-drop}

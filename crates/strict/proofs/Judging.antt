@@ -8,7 +8,7 @@ use mathlib.Core.Path.{_≡_, refl, sym, ap, subst, _∙_}
 use borrow.Author.Tests.{le-leb, lt-leb, leb-true}
 use lib.Dec.{leb}
 use lib.IntN.{ℤ}
-use lib.ListN.{length, drop, getD, set, length-append, drop-of-length-le}
+use lib.ListN.{length, drop, getD, length-append, drop-of-length-le}
 use Rattle.lexis.specs.Text.{Text, if_then_else_}
 use Rattle.lexis.specs.declared.scalar.Scalar.{Scalar}
 use Rattle.lists.proofs.Laying.{slot}

@@ -5,7 +5,7 @@ use mathlib.Core.Path.{_≡_, refl, sym, ap, _∙_}
 use lib.IntN.{ℤ}
 use lib.ListN.{drop, length, getD, set, drop-of-length-le, length-set}
 use Rattle.grammar.specs.Piece.{Answer, got, stuck}
-use Rattle.grammar.specs.Join.{mapped, after}
+use Rattle.grammar.specs.Join.{mapped}
 use Rattle.strict.specs.Rows.{more}
 use Rattle.strict.specs.Lists.{Row, row, pushed, pushes}
 use Rattle.strict.specs.Cursor.{valued}

@@ -1,9 +1,9 @@
 -- A text against the words of a table, byte by byte: the words that are left after a byte, and where none is left.
 use Prim.Native.Nat.{ℕ, zero, suc, _+_, _≤_, _<_}
 use native.Mathlib.Omega.{arith}
-use mathlib.Core.Bool.{Bool, true, false, cond, _&&_, _||_, not}
+use mathlib.Core.Bool.{Bool, true, false, cond, _&&_, _||_}
 use mathlib.Core.List.{List, [], _∷_, _++_}
-use mathlib.Core.Option.{Option, none, some}
+use mathlib.Core.Option.{Option, none}
 use mathlib.Core.Path.{_≡_, refl, subst, sym, ap, _∙_}
 use lib.Dec.{T, eqb, ltb, eqb→eq, eqb-refl, T-not}
 use lib.ListN.{drop, length, getD, drop-of-length-le}

@@ -1,8 +1,8 @@
 -- The readers of what stands in the views, opened; and which way a word's number tells.
 use Prim.Native.Nat.{ℕ, _≤_, _<_}
-use mathlib.Core.Bool.{Bool, true, false, cond}
+use mathlib.Core.Bool.{Bool, true, false}
 use mathlib.Core.List.{List}
-use mathlib.Core.Path.{_≡_, refl, sym, ap, _∙_}
+use mathlib.Core.Path.{_≡_, refl}
 use lib.Dec.{ltb}
 use lib.IntN.{pos}
 use Rattle.grammar.specs.Join.{mapped, after}

@@ -1,14 +1,11 @@
 -- A whole strict form: which way the number of the first word tells, and a made type at its place.
 use Prim.Native.Nat.{ℕ, _≤_, _<_}
-use mathlib.Core.Bool.{Bool, true, false, cond}
+use mathlib.Core.Bool.{cond}
 use mathlib.Core.List.{List}
-use mathlib.Core.Path.{_≡_, refl, subst, sym, ap, _∙_}
+use mathlib.Core.Path.{_≡_, refl}
 use lib.Dec.{ltb}
-use lib.ListN.{length}
 use Rattle.grammar.specs.Piece.{Answer}
 use Rattle.grammar.specs.Join.{after}
-use Rattle.strict.specs.declared.whole.Whole.{Whole}
-use Rattle.strict.specs.Cursor.{Told, valued, place}
 use Rattle.strict.specs.Words.{next, choose}
 use Rattle.strict.specs.Whole as M
 use Rattle.strict.proofs.Insides.{lt-true, lt-false, next-yes, next-no}

@@ -5,7 +5,7 @@ use mathlib.Core.List.{List, [], _∷_}
 use lib.Dec.{eqb, ltb}
 use lib.IntN.{ℤ}
 use Rattle.lexis.specs.Text.{bytes}
-use Rattle.grammar.specs.Piece.{Answer, got, stuck}
+use Rattle.grammar.specs.Piece.{Answer, got}
 use Rattle.grammar.specs.Join.{mapped, after}
 use Rattle.grammar.specs.Table.{Entry, _↝_}
 use Rattle.strict.specs.Words.{choose, among, entries, advances}

@@ -2,9 +2,7 @@
 use Prim.Native.Nat.{ℕ, _+_}
 use mathlib.Core.List.{List, [], _∷_}
 use lib.ListN.{set}
-use lib.IntN.{ℤ, pos}
-use Rattle.grammar.specs.Piece.{Answer}
-use Rattle.grammar.specs.Join.{mapped}
+use lib.IntN.{ℤ}
 use Rattle.meaning.specs.Found.{padded}
 
 pub record Row : Type 0 where

@@ -1,6 +1,6 @@
 -- What the grammar and the code both say of a text: a type with its lists as rows. From it, the record and the answer.
 use Prim.Native.Nat.{ℕ}
-use mathlib.Core.Bool.{Bool, true, false, cond, _&&_}
+use mathlib.Core.Bool.{Bool, cond, _&&_}
 use mathlib.Core.List.{[], _∷_}
 use lib.Dec.{leb}
 use lib.IntN.{ℤ}

@@ -2,10 +2,10 @@
 use Prim.Native.Nat.{ℕ, _^_, _+_}
 use mathlib.Core.Bool.{Bool, true, false, cond}
 use mathlib.Core.List.{List, [], _∷_, _++_}
-use lib.Dec.{eqb, ltb}
+use lib.Dec.{ltb}
 use lib.IntN.{ℤ, pos}
 use Rattle.lexis.specs.Text.{bytes}
-use Rattle.grammar.specs.Piece.{Answer, got, stuck}
+use Rattle.grammar.specs.Piece.{Answer}
 use Rattle.grammar.specs.Join.{mapped, after}
 use Rattle.strict.specs.Cursor.{numeral}
 use Rattle.grammar.specs.Table.{Entry, _↝_}

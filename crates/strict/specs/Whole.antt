@@ -1,8 +1,7 @@
 -- A whole strict form, as the code reads it: the first word, by its number, tells the kind and what follows.
 use Prim.Native.Nat.{ℕ, _+_}
-use mathlib.Core.Bool.{Bool, true, false, cond}
+use mathlib.Core.Bool.{Bool, false, cond}
 use mathlib.Core.List.{List, [], _∷_, _++_}
-use mathlib.Core.Path.{_≡_}
 use lib.Dec.{ltb}
 use lib.IntN.{ℤ, pos}
 use Rattle.lexis.specs.Text.{bytes}

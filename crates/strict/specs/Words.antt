@@ -1,10 +1,10 @@
 -- Tables of words: each word is ended by the byte 124, and known by its number. What the code reads of them.
 use Prim.Native.Nat.{ℕ, _+_, _-_}
-use mathlib.Core.Bool.{Bool, true, false, cond, not}
+use mathlib.Core.Bool.{Bool, false, cond, not}
 use mathlib.Core.List.{List, [], _∷_, _++_}
 use lib.Dec.{eqb, leb}
 use lib.ListN.{drop, length}
-use Rattle.grammar.specs.Piece.{Answer, got, stuck}
+use Rattle.grammar.specs.Piece.{Answer, stuck}
 use Rattle.grammar.specs.Table.{Entry, _↝_, advance, pick}
 use Rattle.strict.specs.declared.words.Picked.{Picked}
 
