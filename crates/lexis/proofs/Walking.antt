@@ -2,17 +2,16 @@
 -- What is passed is left out of the part's length, of its trimmed text and of its number.
 use mathlib.Core.Path.{_≡_, refl, sym, ap, subst, _∙_}
 use mathlib.Core.Bool.{Bool, true, false, _&&_, _||_, not, false≢true}
-use mathlib.Core.List.{List, [], _∷_}
-use mathlib.Core.Logic.{_⊎_, ⊎-elim}
-use mathlib.Core.Option.{Option, none, some}
-use Prim.Native.Nat.{ℕ, zero, suc, _+_, _-_, _*_, _^_, _≤_, _<_}
+use mathlib.Core.List.{[], _∷_}
+use mathlib.Core.Option.{none, some}
+use Prim.Native.Nat.{ℕ, _+_, _-_, _*_, _^_, _≤_, _<_}
 use native.Mathlib.Omega.{arith}
 use borrow.Author.Tests.{eqb-true, leb-true, ne-eqb, eq-eqb, le-leb, lt-leb}
 use lib.Dec.{eqb, leb}
-use lib.IntN.{ℤ, pos}
+use lib.IntN.{pos}
 use lib.ListN.{length, take, drop, getD, drop-of-length-le}
-use Rattle.lexis.specs.Text.{Text, if_then_else_, until, less-leading, less-trailing, unless-last, white, trim}
-use Rattle.lexis.specs.Numeral.{digit, number-from, number, at-most, minus, numeral}
+use Rattle.lexis.specs.Text.{Text, if_then_else_, until, less-trailing, unless-last, white, trim}
+use Rattle.lexis.specs.Numeral.{digit, number-from, number, minus, numeral}
 use Rattle.lexis.specs.Parts.{ink, apart}
 use Rattle.lexis.proofs.Lists.{view}
 use Rattle.lexis.proofs.Seeking.{until-step, until-stop, until-take}
@@ -132,7 +131,7 @@ is-digit b e = by (leb 48 b) (leb b 57) (leb-true 48 b) (leb-true b 57) e
     by true d p q e = record { low = p refl; high = q e }
     by false d p q e = absurd (false≢true e)
 
-absent : {A : Type 0} {n : A} → none ≡ some n → ⊥
+pub absent : {A : Type 0} {n : A} → none ≡ some n → ⊥
 absent e = let z : _≡_ {A = ℕ} 0 1 = cc in omega arith
 
 -- digits have nothing to trim

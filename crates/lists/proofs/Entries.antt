@@ -1,4 +1,4 @@
--- What an entry is, by the tests and answers that the code has of its trimmed text t.
+-- What an entry is, by the tests and answers that the code has of its trimmed text t, or by its numeral where that is known.
 use mathlib.Core.Path.{_≡_, refl, sym, ap, _∙_}
 use mathlib.Core.Bool.{Bool, true, false, _&&_}
 use mathlib.Core.List.{[], _∷_}
@@ -11,7 +11,7 @@ use lib.IntN.{ℤ, negsuc}
 use lib.ListN.{length, take, drop}
 use Rattle.lexis.specs.Text.{Text, bytes, if_then_else_, same, trim, until}
 use Rattle.lexis.proofs.Lists.{rest}
-use Rattle.lexis.proofs.Walking.{sought-part}
+use Rattle.lexis.proofs.Walking.{absent, sought-part}
 use Rattle.lexis.specs.Numeral.{numeral}
 use Rattle.meaning.specs.Found.{read}
 use Rattle.meaning.specs.Tile.{DYNAMIC, read-or, dimension}
@@ -38,9 +38,6 @@ unfolding small
 number32 d s e n = ap (read-or d) n ∙ ap (λ (u : Text). read-or d (numeral 32 u)) e
 
 -- ── where the numeral is known ──
-
-absent : {n : ℤ} → none ≡ some n → ⊥
-absent e = let z : _≡_ {A = ℕ} 0 1 = cc in omega arith
 
 -- `?` is no numeral
 no-question : (t : Text) {z : ℤ} → some z ≡ numeral 64 t → same t (bytes "?") ≡ false
