@@ -13,7 +13,7 @@ use lib.Seq.{take-all, drop-drop}
 use Rattle.lexis.specs.Text.{Text, until, split}
 use Rattle.lexis.proofs.Lists.{rest}
 use Rattle.lexis.proofs.Seeking.{until-take}
-use Rattle.lexis.proofs.Splitting.{split-more, split-last}
+use Rattle.lexis.proofs.Splitting.{split-more, split-last, split-some, tail}
 use Rattle.meaning.specs.Parts.{last, front}
 use Rattle.meaning.specs.Found.{Entry, read, fell, stands, value, padded, fallen, unused}
 use Rattle.lists.specs.Laid.{Laid, laid}
@@ -139,3 +139,18 @@ module _ (w x : ℕ) (said : Text → Entry) where
 
     pub last-at : length s - at ≤ k → length (drop at s) ≤ length (until (eqb x) (drop at s))
     last-at h = rw (← from-there, length-drop) h
+
+-- ── the entries before the last part, and that of the last ──
+
+front-last : (p : Text) (ps : List Text) → front (p ∷ ps) ++ last (p ∷ ps) ∷ [] ≡ p ∷ ps
+front-last p [] = refl
+front-last p (q ∷ ps) = ap (λ (l : List Text). p ∷ l) (front-last q ps)
+
+pub with-last : (w x : ℕ) (said : Text → Entry) (s : Text) {l l′ : Laid} {e : Entry} → l ≡ laid w (stands (L.map said (front (split x s)))) → e ≡ said (last (split x s)) → l′ ≡ push l e
+    → l′ ≡ laid w (stands (L.map said (split x s)))
+with-last w x said s g p q =
+    let m = split-some x s in
+    let f : front (split x s) ++ last (split x s) ∷ [] ≡ split x s =
+    ap (λ (ps : List Text). front ps ++ last ps ∷ []) m ∙ front-last (until (eqb x) s) (tail (split x s)) ∙ sym m in
+    q ∙ (λ i. push (g i) (p i)) ∙ laid-more w (L.map said (front (split x s))) (said (last (split x s)))
+    ∙ ap (λ (es : List Entry). laid w (stands es)) (sym (map-append said (front (split x s)) (last (split x s) ∷ [])) ∙ ap (L.map said) f)

@@ -1,15 +1,17 @@
 -- For private contracts: an entry by its numeral, a list with one entry more, and whether there is any.
-use Prim.Native.Nat.{ℕ, zero, suc, _+_}
+use Prim.Native.Nat.{ℕ, zero, suc, _+_, _≤_}
 use mathlib.Core.Path.{_≡_}
 use lib.IntN.{ℤ}
-use lib.ListN.{set}
-use Rattle.lexis.specs.Text.{Text, trim}
+use lib.ListN.{set, length, drop}
+use Rattle.lexis.specs.Text.{Text, trim, split}
 use Rattle.lexis.specs.Numeral as N
 use Rattle.lexis.specs.declared.numeral.Number64.{Number64}
 use Rattle.lexis.specs.declared.numeral.Number32.{Number32}
 use Rattle.meaning.specs.Found.{Entry, read, fell}
-use Rattle.meaning.specs.Tile.{read-or}
-use Rattle.lists.specs.Laid.{Laid}
+use Rattle.meaning.specs.Parts.{last, front}
+use Rattle.meaning.specs.Tile.{read-or, dimensions}
+use Rattle.lists.specs.Laid.{Laid, laid, list64}
+use Rattle.lists.specs.declared.list.Front.{Front}
 
 -- v is what s says, trimmed
 abbrev pub Says : Number64 → Text → Type 0
@@ -30,3 +32,9 @@ push l (fell z) = put l z 1
 abbrev pub any : ℕ → ℕ
 any zero = 0
 any (suc n) = 1
+
+-- as `Fronted`, for any byte x
+pub record Ahead (x : ℕ) (s : Text) (r : Front) : Type 0 where
+  pub dims : list64 (r .dims) ≡ laid 8 (dimensions (front (split x s)))
+  pub part : drop (r .last) s ≡ last (split x s)
+  pub inside : r .last ≤ length s

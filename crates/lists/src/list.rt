@@ -2,6 +2,7 @@
 use super::entry::Entry32;
 use super::entry::Entry64;
 use super::entry::dim_of;
+use super::entry::parse_dim;
 use super::entry::parse_small;
 use super::entry::small_of;
 use super::fill::none32;
@@ -16,7 +17,7 @@ ghost use Rattle.meaning.specs.Found.{stands};
 ghost use Rattle.meaning.specs.Tile.{dimensions};
 ghost use Rattle.meaning.specs.Views.{small};
 ghost use Rattle.lists.specs.Laid.{laid, said64, said32, list64, list32, smalls, Fronted};
-ghost use Rattle.lists.specs.Push.{put, push};
+ghost use Rattle.lists.specs.Push.{put, push, Ahead};
 
 // A list of 64-bit entries: as its clause stands, or filled in.
 pub struct List64 {
@@ -96,32 +97,14 @@ fn push32(l: List32, e: Entry32) -> List32
     }
 }
 
-// The dimensions between the bytes `x` of `s`.
-pub fn parse_dims(s: &[u8], x: u8) -> List64
-    ensures { λ r. ⌜ list64 r ≡ laid 8 (dimensions (split x (now (s .entry)))) ⌝ }
-{
-    let mut t = s;
-    let mut l = none64();
-    loop {
-        let p = lexis::part_i64(t, x);
-        let k = p.len;
-        let v = p.value;
-        l = push64(l, dim_of(&t[..k], v));
-        if t.len() <= k {
-            return l;
-        }
-        t = &t[k + 1..];
-    }
-}
-
-// The dimensions before the last `x` of `s`, and where the part after it begins.
-pub fn parse_front(s: &[u8]) -> Front
-    ensures { λ r. ⌜ Fronted 8 (now (s .entry)) r ⌝ }
+// The dimensions before the last byte `x` of `s`, and where the part after it begins.
+fn before_last(s: &[u8], x: u8) -> Front
+    ensures { λ r. ⌜ Ahead x (now (s .entry)) r ⌝ }
 {
     let mut at = 0;
     let mut l = none64();
     loop {
-        let p = lexis::part_i64(&s[at..], 120);
+        let p = lexis::part_i64(&s[at..], x);
         let k = p.len;
         if s.len() - at <= k {
             return Front { dims: l, last: at };
@@ -130,6 +113,23 @@ pub fn parse_front(s: &[u8]) -> Front
         l = push64(l, dim_of(&s[at..at + k], v));
         at = at + k + 1;
     }
+}
+
+// The dimensions between the bytes `x` of `s`.
+pub fn parse_dims(s: &[u8], x: u8) -> List64
+    ensures { λ r. ⌜ list64 r ≡ laid 8 (dimensions (split x (now (s .entry)))) ⌝ }
+{
+    let f = before_last(s, x);
+    let l = f.dims;
+    let last = f.last;
+    push64(l, parse_dim(&s[last..]))
+}
+
+// The dimensions before the last `x` of `s`, and where the part after it begins.
+pub fn parse_front(s: &[u8]) -> Front
+    ensures { λ r. ⌜ Fronted 8 (now (s .entry)) r ⌝ }
+{
+    before_last(s, 120)
 }
 
 // The 32-bit entries between the bytes `x` of `s`; an unreadable one falls back on `default`.
