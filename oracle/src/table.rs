@@ -81,9 +81,9 @@ use mathlib.Core.Path.{{_≡_, refl}}
 use mathlib.Core.Bool.{{true, false, not}}
 use mathlib.Core.List as L
 use mathlib.Core.List.{{List, [], _∷_}}
-use Rattle.lexis.specs.Names.{{byte-width, integer, bit-width}}
-use Rattle.lexis.specs.declared.scalar.Scalar.{{Scalar}}
-use Rattle.lexis.specs.declared.scalar.Scalar.the-variants as S
+use Rattle.scalars.specs.Names.{{byte-width, integer, bit-width}}
+use Rattle.scalars.specs.declared.scalar.Scalar.{{Scalar}}
+use Rattle.scalars.specs.declared.scalar.Scalar.the-variants as S
 
 abbrev all : List Scalar
 all = {}
@@ -128,7 +128,7 @@ use mathlib.Core.List.{{List, [], _∷_}}
 use lib.IntN.{{pos, negsuc}}
 use Rattle.meaning.proofs.Answers.{{Row, row, refused, type, DYN}}
 use Rattle.meaning.specs.declared.Kind.the-variants as K
-use Rattle.lexis.specs.declared.scalar.Scalar.the-variants as S
+use Rattle.scalars.specs.declared.scalar.Scalar.the-variants as S
 use Rattle.meaning.specs.declared.Padding.the-variants as P
 use Rattle.meaning.specs.declared.Refusal.the-variants as R
 use mathlib.Core.Bool.{{true, false}}

@@ -9,9 +9,9 @@ use lib.Dec.{T, ltb→lt}
 use lib.ListN.{getD}
 use lib.IntN.{ℤ, pos}
 use Rattle.lexis.specs.Text.{bytes, Cut}
-use Rattle.lexis.specs.Names.{scalar-name}
-use Rattle.lexis.specs.declared.scalar.Scalar.{Scalar}
-use Rattle.lexis.specs.declared.scalar.Scalar.the-variants.{I1}
+use Rattle.scalars.specs.Names.{scalar-name}
+use Rattle.scalars.specs.declared.scalar.Scalar.{Scalar}
+use Rattle.scalars.specs.declared.scalar.Scalar.the-variants.{I1}
 use Rattle.meaning.specs.declared.Kind.{Kind}
 use Rattle.meaning.specs.declared.Kind.the-variants as K
 use Rattle.meaning.specs.declared.Padding.{Padding}

@@ -34,9 +34,9 @@ module _ (cap size : ℕ) (s : Text) where
   by-judged l (too-many a h f) n = accord-many cap size s a h l f
   by-judged l (not-strict f) n = absurd (n refl)
 
-  by-ascii : length s ≤ size → (o : Option ℕ) → high-from 0 s ≡ o → (r : Reading) → Read-ascii cap s o r → (r .refusal ≡ NotStrict → ⊥) → read-ascii cap s o ≡ ordinary cap size s → ordinary cap size s ≡ r
-  by-ascii l (some place) e r h n q = sym q ∙ sym h
-  by-ascii l none e r h n q = by-judged l h n
+  by-ascii : length s ≤ size → (o : Option ℕ) (r : Reading) → Read-ascii cap s o r → (r .refusal ≡ NotStrict → ⊥) → ordinary cap size s ≡ read-ascii cap s o → ordinary cap size s ≡ r
+  by-ascii l (some place) r h n q = q ∙ sym h
+  by-ascii l none r h n q = by-judged l h n
 
   -- WHAT THE STRICT READER DOESN'T REFUSE WITH 5, THE ORDINARY READER ANSWERS ALIKE: a type, counts (all zero) included; a refusal
   pub strict-ordinary : (r : Reading) → Strictly cap size s r → (r .refusal ≡ NotStrict → ⊥) → ordinary cap size s ≡ r
@@ -44,7 +44,7 @@ module _ (cap size : ℕ) (s : Text) where
   strict-ordinary r = by (leb (length s) size) (leb→le (length s) size) refl
     where
       by : (b : Bool) → (T b → length s ≤ size) → leb (length s) size ≡ b → elim b as (λ _. Type 0) [ true ↦ Read-ascii cap s (high-from 0 s) r | false ↦ r ≡ refused cap TooLong 0 ] → (r .refusal ≡ NotStrict → ⊥) → ordinary cap size s ≡ r
-      by true l q h n = by-ascii (l tt) (high-from 0 s) refl r h n (sym (ap (λ (b : Bool). if b then read-ascii cap s (high-from 0 s) else refused cap TooLong 0) q))
+      by true l q h n = by-ascii (l tt) (high-from 0 s) r h n (ap (λ (b : Bool). if b then read-ascii cap s (high-from 0 s) else refused cap TooLong 0) q)
       by false l q h n = ap (λ (b : Bool). if b then read-ascii cap s (high-from 0 s) else refused cap TooLong 0) q ∙ sym h
 
 -- ── written, then read ──

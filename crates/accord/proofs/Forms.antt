@@ -7,7 +7,7 @@ use mathlib.Core.List.{List, [], _∷_, _++_}
 use lib.Dec.{T, eqb, leb, ltb, le→leb, ltb→lt}
 use lib.IntN.{ℤ, pos, negsuc}
 use Rattle.lexis.specs.Text.{bytes}
-use Rattle.lexis.specs.Numeral.{digit}
+use Rattle.numerals.specs.Numeral.{digit}
 use Rattle.grammar.specs.Tests.{every, and-in}
 use Rattle.meaning.specs.Decimal.{digits, decimal, Dim, dynamic, known, dim}
 use Rattle.meaning.specs.Strict as Form

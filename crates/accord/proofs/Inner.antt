@@ -10,7 +10,7 @@ use lib.Dec.{T, eqb, le→leb, eqb→eq}
 use lib.ListN.{length}
 use lib.IntN.{pos, negsuc}
 use Rattle.lexis.specs.Text.{bytes, trim, split, cut, Cut, nowhere, begins, less-leading, less-trailing, unless-last, if_then_else_}
-use Rattle.lexis.specs.Names.{scalar-name}
+use Rattle.scalars.specs.Names.{scalar-name}
 use Rattle.meaning.specs.Decimal.{Dim, dynamic, known, dim, size, in64}
 use Rattle.meaning.specs.Strict as Form
 use Rattle.meaning.specs.Strict.{_⊕_, cuda, Commas, commas, values, dims, Name, word, scalarOf, words}

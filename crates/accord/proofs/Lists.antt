@@ -7,7 +7,7 @@ use mathlib.Core.Path.{_≡_, refl, sym, ap, _∙_}
 use lib.Dec.{T, eqb, ltb→lt, le→leb, eqb-refl}
 use lib.IntN.{ℤ, pos, negsuc}
 use Rattle.lexis.specs.Text.{bytes, same, split, onto-first, found, occurs, Cut, if_then_else_}
-use Rattle.lexis.specs.Numeral.{digit, numeral}
+use Rattle.numerals.specs.Numeral.{digit, numeral}
 use Rattle.meaning.specs.Decimal.{digits, decimal, Dim, dynamic, known, dim, size, in64, in32}
 use Rattle.meaning.specs.Strict.{may, comma, Next, Commas, rest, commas, values, dims, xrest, Entries, byX, byComma, entries, entriesOf}
 use Rattle.meaning.specs.Meant.{eachOf}

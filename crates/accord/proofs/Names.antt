@@ -7,9 +7,9 @@ use mathlib.Core.Option.{some}
 use mathlib.Core.Path.{_≡_, refl}
 use lib.Dec.{T, ltb→lt}
 use lib.ListN.{length}
-use Rattle.lexis.specs.Names.{scalar-name}
-use Rattle.lexis.specs.declared.scalar.Scalar.{Scalar}
-use Rattle.lexis.specs.declared.scalar.Scalar.the-variants.{I1}
+use Rattle.scalars.specs.Names.{scalar-name}
+use Rattle.scalars.specs.declared.scalar.Scalar.{Scalar}
+use Rattle.scalars.specs.declared.scalar.Scalar.the-variants.{I1}
 use Rattle.grammar.specs.Tests.{every, and-left, and-right}
 use Rattle.meaning.specs.Strict.{nth, words, scalars, Name, word, scalarOf}
 

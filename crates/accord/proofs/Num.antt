@@ -9,7 +9,7 @@ use mathlib.Core.Path.{_≡_, refl, ap, _∙_}
 use lib.Dec.{T, eqb, leb, ltb, le→leb, leb→le, ltb→lt, nltb→le, eqb→eq}
 use lib.IntN.{ℤ, pos, negsuc}
 use Rattle.lexis.specs.Text.{white, trim, less-leading, less-trailing, unless-last, if_then_else_}
-use Rattle.lexis.specs.Numeral.{digit, number-from, number, at-most, minus, numeral}
+use Rattle.numerals.specs.Numeral.{digit, number-from, number, at-most, minus, numeral}
 use Rattle.meaning.specs.Decimal.{digits, decimal}
 use Rattle.grammar.specs.Tests.{every, and-left, and-right, and-in, is-true, T-not-eq}
 use Rattle.grammar.specs.Digits.{small}

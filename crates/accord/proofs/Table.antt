@@ -12,7 +12,7 @@ use lib.Dec.{eqb}
 use lib.IntN.{pos}
 use lib.ListN.{length, drop, replicate}
 use Rattle.lexis.specs.Text.{Text, bytes, if_then_else_}
-use Rattle.lexis.specs.declared.scalar.Scalar.the-variants.{F32}
+use Rattle.scalars.specs.declared.scalar.Scalar.the-variants.{F32}
 use Rattle.meaning.specs.declared.Kind.the-variants as K
 use Rattle.meaning.specs.declared.Padding.the-variants.{Absent}
 use Rattle.meaning.specs.declared.Reading.{Reading}

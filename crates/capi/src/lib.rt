@@ -1,11 +1,11 @@
 // The C face: numbers and byte slices in and out, nothing decided here (docs/ABI.md). Here the reader; the writer in `write`.
 mod write;
 
-use lexis::Scalar;
 use meaning::Kind;
 use meaning::Padding;
 use meaning::Reading;
 use meaning::Record;
+use scalars::Scalar;
 pub use write::TypetextRecord;
 pub use write::TypetextWritten;
 pub use write::typetext_write;

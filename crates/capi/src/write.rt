@@ -1,9 +1,9 @@
 // The writer's C face: a record in numbers, its text laid in the caller's room (docs/ABI.md).
-use lexis::Scalar;
 use meaning::CAP;
 use meaning::Kind;
 use meaning::Padding;
 use meaning::Record;
+use scalars::Scalar;
 ghost use mathlib.Core.Path.{_≡_};
 ghost use Rattle.capi.specs.Abi.{kind-of, scalar-of, padding-of, flag-of, of-numbers, outcome, write-numbers, given, Value};
 

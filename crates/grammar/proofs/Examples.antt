@@ -7,8 +7,8 @@ use mathlib.Core.Path.{_≡_, refl}
 use lib.IntN.{ℤ, pos, negsuc}
 use lib.ListN.{length}
 use Rattle.lexis.specs.Text.{Text, bytes}
-use Rattle.lexis.specs.Names.{names}
-use Rattle.lexis.specs.declared.scalar.Scalar.the-variants.{I1, I8, F16, BF16, F32, F8E5M2}
+use Rattle.scalars.specs.Names.{names}
+use Rattle.scalars.specs.declared.scalar.Scalar.the-variants.{I1, I8, F16, BF16, F32, F8E5M2}
 use Rattle.meaning.specs.declared.Kind.the-variants as K
 use Rattle.meaning.specs.declared.Padding.the-variants as P
 use Rattle.meaning.specs.declared.Refusal.the-variants.{HighByte, NotStrict, TooMany}

@@ -9,7 +9,7 @@ use lib.Dec.{T}
 use lib.IntN.{ℤ}
 use Rattle.lexis.specs.Text.{bytes}
 use Rattle.meaning.specs.Strict as S
-use Rattle.lexis.specs.declared.scalar.Scalar.{Scalar}
+use Rattle.scalars.specs.declared.scalar.Scalar.{Scalar}
 use Rattle.meaning.specs.Decimal.{Dim, dim, size, in64}
 use Rattle.meaning.specs.Strict.{_⊕_, Commas, comma, commas, values, dims, Name, word, scalarOf, mark, Tensor, Strides, body}
 use Rattle.meaning.specs.Meant.{eachOf, tensorOk, stridesOf}

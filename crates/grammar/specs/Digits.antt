@@ -6,7 +6,7 @@ use mathlib.Core.Bool.{Bool, true, false, not}
 use mathlib.Core.List.{List, [], _∷_, _++_, append-nil}
 use mathlib.Core.Path.{_≡_, refl, ap, _∙_}
 use lib.Dec.{T, leb, ltb, leb→le, ltb→lt, lt→ltb, nltb→le}
-use Rattle.lexis.specs.Numeral.{digit}
+use Rattle.numerals.specs.Numeral.{digit}
 use Rattle.meaning.specs.Decimal.{digits}
 use Rattle.grammar.specs.Tests.{every, and-left, and-right}
 

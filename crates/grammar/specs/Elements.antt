@@ -8,8 +8,8 @@ use lib.Dec.{T, ltb→lt}
 use lib.IntN.{ℤ}
 use Rattle.lexis.specs.Text.{bytes}
 use Rattle.meaning.specs.Strict as S
-use Rattle.lexis.specs.declared.scalar.Scalar.{Scalar}
-use Rattle.lexis.specs.declared.scalar.Scalar.the-variants.{I1}
+use Rattle.scalars.specs.declared.scalar.Scalar.{Scalar}
+use Rattle.scalars.specs.declared.scalar.Scalar.the-variants.{I1}
 use Rattle.meaning.specs.Strict.{_⊕_, nth, Name, word, words, scalars, scalarOf, cuda, mark, Element}
 use Rattle.grammar.specs.Piece.{apart, Piece}
 use Rattle.grammar.specs.Join.{map, bind, restate}

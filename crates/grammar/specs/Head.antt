@@ -6,8 +6,8 @@ use mathlib.Core.Logic.{_⊎_, inl, inr}
 use mathlib.Core.Path.{_≡_, refl}
 use lib.Dec.{ltb→lt}
 use Rattle.lexis.specs.Text.{bytes}
-use Rattle.lexis.specs.declared.scalar.Scalar.{Scalar}
-use Rattle.lexis.specs.declared.scalar.Scalar.the-variants.{I1}
+use Rattle.scalars.specs.declared.scalar.Scalar.{Scalar}
+use Rattle.scalars.specs.declared.scalar.Scalar.the-variants.{I1}
 use Rattle.meaning.specs.Strict.{Name, words, word, scalars, scalarOf}
 use Rattle.grammar.specs.Piece.{Piece}
 use Rattle.grammar.specs.Table.{table, Among}

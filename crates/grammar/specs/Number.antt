@@ -10,7 +10,7 @@ use lib.Dec.{T, eqb, leb, ltb, eqb→eq, eqb-refl, T-not, not-T, le→leb, leb�
 use lib.IntN.{ℤ, pos, negsuc}
 use Rattle.lexis.specs.Text.{bytes}
 use Rattle.meaning.specs.Decimal.{digits, decimal}
-use Rattle.lexis.specs.Numeral.{digit}
+use Rattle.numerals.specs.Numeral.{digit}
 use Rattle.grammar.specs.Tests.{and-left, and-right, every, and-in, is-true, T-not-eq}
 use Rattle.grammar.specs.Digits.{small, value, fuel, step, grows, canonical}
 use Rattle.grammar.specs.Piece.{member, stops, heads, Answer, got, stuck, Alike, Good, Some, Piece}

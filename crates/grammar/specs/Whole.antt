@@ -8,8 +8,8 @@ use mathlib.Core.Path.{_≡_, refl, subst, sym, ap, _∙_}
 use lib.Dec.{T}
 use lib.IntN.{ℤ, pos}
 use Rattle.lexis.specs.Text.{bytes}
-use Rattle.lexis.specs.declared.scalar.Scalar.{Scalar}
-use Rattle.lexis.specs.declared.scalar.Scalar.the-variants.{I1}
+use Rattle.scalars.specs.declared.scalar.Scalar.{Scalar}
+use Rattle.scalars.specs.declared.scalar.Scalar.the-variants.{I1}
 use Rattle.meaning.specs.declared.Kind.the-variants as K
 use Rattle.meaning.specs.declared.Padding.the-variants as P
 use Rattle.meaning.specs.Decimal.{decimal, Dim, size, in32, in64}

@@ -3,7 +3,7 @@ use mathlib.Core.List.{List, [], _∷_}
 use lib.IntN.{pos, negsuc}
 use Rattle.meaning.proofs.Answers.{Row, row, refused, type, DYN}
 use Rattle.meaning.specs.declared.Kind.the-variants as K
-use Rattle.lexis.specs.declared.scalar.Scalar.the-variants as S
+use Rattle.scalars.specs.declared.scalar.Scalar.the-variants as S
 use Rattle.meaning.specs.declared.Padding.the-variants as P
 use Rattle.meaning.specs.declared.Refusal.the-variants as R
 use mathlib.Core.Bool.{true, false}

@@ -3,9 +3,9 @@ use mathlib.Core.Path.{_≡_, refl}
 use mathlib.Core.Bool.{true, false, not}
 use mathlib.Core.List as L
 use mathlib.Core.List.{List, [], _∷_}
-use Rattle.lexis.specs.Names.{byte-width, integer, bit-width}
-use Rattle.lexis.specs.declared.scalar.Scalar.{Scalar}
-use Rattle.lexis.specs.declared.scalar.Scalar.the-variants as S
+use Rattle.scalars.specs.Names.{byte-width, integer, bit-width}
+use Rattle.scalars.specs.declared.scalar.Scalar.{Scalar}
+use Rattle.scalars.specs.declared.scalar.Scalar.the-variants as S
 
 abbrev all : List Scalar
 all = S.I1 ∷ S.I4 ∷ S.I8 ∷ S.I16 ∷ S.I32 ∷ S.I64 ∷ S.F16 ∷ S.BF16 ∷ S.F32 ∷ S.TF32 ∷ S.F64 ∷ S.F8E4M3FN ∷ S.F8E5M2 ∷ S.F8E8M0FNU ∷ S.F4E2M1FN ∷ S.F8E5M3FNU ∷ []

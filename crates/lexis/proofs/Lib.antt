@@ -3,12 +3,6 @@ pub mod Lists
 pub mod Seeking
 pub mod Passing
 pub mod Trimming
-pub mod Numbers
-pub mod Sign
-pub mod Signed
 pub mod Splitting
-pub mod Naming
-pub mod Classes
 pub mod Examples
 pub mod Unique
-pub mod Walking

@@ -10,6 +10,11 @@ use Rattle.lexis.specs.Text.{Text, if_then_else_, until, onto-first, spl
 use Rattle.lexis.proofs.Lists.{rest}
 use Rattle.lexis.proofs.Seeking.{until-within}
 
+-- the parts behind the first
+abbrev pub tail : List Text → List Text
+tail [] = []
+tail (e ∷ es) = es
+
 module _ (x : ℕ) where
   pub split-more : (t : List ℕ) → length (until (eqb x) t) < length t → split x t ≡ until (eqb x) t ∷ split x (drop (suc (length (until (eqb x) t))) t)
   split-more [] h = let f : ⊥ = omega arith in absurd f
@@ -30,6 +35,15 @@ module _ (x : ℕ) where
           → if d then [] ∷ split x t else onto-first b (split x t) ≡ (if d then [] else b ∷ until (eqb x) t) ∷ []
       by true e k = let f : ⊥ = omega arith in absurd f
       by false e k = ap (onto-first b) (e (omega arith))
+
+  pub split-some : (t : List ℕ) → split x t ≡ until (eqb x) t ∷ tail (split x t)
+  split-some [] = refl
+  split-some (b ∷ t) = by (eqb x b) (split-some t)
+    where
+      by : (d : Bool) → split x t ≡ until (eqb x) t ∷ tail (split x t)
+          → if d then [] ∷ split x t else onto-first b (split x t) ≡ (if d then [] else b ∷ until (eqb x) t) ∷ tail (if d then [] ∷ split x t else onto-first b (split x t))
+      by true e = refl
+      by false e = rw e
 
   -- the first part by its length, and what is left behind the byte x after it
   module _ (t : List ℕ) (k : ℕ) where

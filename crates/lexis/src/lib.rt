@@ -1,24 +1,10 @@
-// Numerals, trimming, scalar names and byte search: what the readers stand on. Nothing here knows a type.
+// Trimming and byte search: what the readers stand on. Nothing here knows a type.
 mod blocks;
-mod numeral;
-mod part;
-mod scalar;
 mod text;
 
 pub use blocks::seek;
 pub use blocks::seek_either;
 pub use blocks::seek_high;
-pub use numeral::Number32;
-pub use numeral::Number64;
-pub use numeral::parse_i32;
-pub use numeral::parse_i64;
-pub use part::Part32;
-pub use part::Part64;
-pub use part::part_i32;
-pub use part::part_i64;
-pub use scalar::Named;
-pub use scalar::Scalar;
-pub use scalar::parse_scalar;
 pub use text::Found;
 pub use text::begins;
 pub use text::contains;

@@ -14,7 +14,7 @@ pub enum Found {
 }
 
 // Whether `what` stands in `text` at the place `at`.
-pub(crate) fn stands(text: &[u8], what: &[u8], at: usize) -> bool
+fn stands(text: &[u8], what: &[u8], at: usize) -> bool
     requires { ⌜ at ≤ length (now text) ⌝ }
     ensures { λ r. ⌜ r ≡ begins (now (what .entry)) (drop at (now (text .entry))) ⌝ }
 {

@@ -11,8 +11,8 @@ use lib.IntN.{ℤ, negsuc}
 use lib.ListN.{length, take, drop}
 use Rattle.lexis.specs.Text.{Text, bytes, if_then_else_, same, trim, until}
 use Rattle.lexis.proofs.Lists.{rest}
-use Rattle.lexis.proofs.Walking.{absent, sought-part}
-use Rattle.lexis.specs.Numeral.{numeral}
+use Rattle.numerals.proofs.Walking.{absent, sought-part}
+use Rattle.numerals.specs.Numeral.{numeral}
 use Rattle.meaning.specs.Found.{read}
 use Rattle.meaning.specs.Tile.{DYNAMIC, read-or, dimension}
 use Rattle.meaning.specs.Views.{small}

@@ -4,9 +4,9 @@ use mathlib.Core.Path.{_≡_}
 use lib.IntN.{ℤ}
 use lib.ListN.{set, length, drop}
 use Rattle.lexis.specs.Text.{Text, trim, split}
-use Rattle.lexis.specs.Numeral as N
-use Rattle.lexis.specs.declared.numeral.Number64.{Number64}
-use Rattle.lexis.specs.declared.numeral.Number32.{Number32}
+use Rattle.numerals.specs.Numeral as N
+use Rattle.numerals.specs.declared.numeral.Number64.{Number64}
+use Rattle.numerals.specs.declared.numeral.Number32.{Number32}
 use Rattle.meaning.specs.Found.{Entry, read, fell}
 use Rattle.meaning.specs.Parts.{last, front}
 use Rattle.meaning.specs.Tile.{read-or, dimensions}

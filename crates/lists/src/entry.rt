@@ -1,6 +1,6 @@
 // Entries: read, or fallen back on a default (01, modules 1 and 6).
-use lexis::Number32;
-use lexis::Number64;
+use numerals::Number32;
+use numerals::Number64;
 ghost use mathlib.Core.Path.{_≡_};
 ghost use Rattle.meaning.specs.Tile.{dimension};
 ghost use Rattle.meaning.specs.Views.{small};
@@ -24,7 +24,7 @@ pub enum Entry32 {
 pub fn parse_dim(s: &[u8]) -> Entry64
     ensures { λ r. ⌜ said64 r ≡ dimension (now (s .entry)) ⌝ }
 {
-    dim_of(s, lexis::parse_i64(lexis::trim(s)))
+    dim_of(s, numerals::parse_i64(lexis::trim(s)))
 }
 
 // The same, where what the trimmed text says as a numeral is known.
@@ -47,7 +47,7 @@ pub(crate) fn dim_of(s: &[u8], v: Number64) -> Entry64
 pub fn parse_small(s: &[u8], default: i32) -> Entry32
     ensures { λ r. ⌜ said32 r ≡ small default (now (s .entry)) ⌝ }
 {
-    small_of(lexis::parse_i32(lexis::trim(s)), default)
+    small_of(numerals::parse_i32(lexis::trim(s)), default)
 }
 
 // What a numeral says, or `default`.

@@ -104,7 +104,7 @@ fn before_last(s: &[u8], x: u8) -> Front
     let mut at = 0;
     let mut l = none64();
     loop {
-        let p = lexis::part_i64(&s[at..], x);
+        let p = numerals::part_i64(&s[at..], x);
         let k = p.len;
         if s.len() - at <= k {
             return Front { dims: l, last: at };
@@ -139,7 +139,7 @@ pub fn parse_smalls(s: &[u8], x: u8, default: i32) -> List32
     let mut t = s;
     let mut l = none32();
     loop {
-        let p = lexis::part_i32(t, x);
+        let p = numerals::part_i32(t, x);
         let k = p.len;
         let v = p.value;
         l = push32(l, small_of(v, default));

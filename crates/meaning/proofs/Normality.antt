@@ -12,8 +12,8 @@ use lib.Dec.{leb}
 use lib.IntN.{ℤ}
 use lib.ListN.{length, drop}
 use Rattle.lexis.specs.Text.{Text, bytes, if_then_else_, same, trim, split, Cut, nowhere, at, cut}
-use Rattle.lexis.specs.Names.{scalar-name}
-use Rattle.lexis.specs.declared.scalar.Scalar.{Scalar}
+use Rattle.scalars.specs.Names.{scalar-name}
+use Rattle.scalars.specs.declared.scalar.Scalar.{Scalar}
 use Rattle.meaning.specs.declared.Kind.the-variants as K
 use Rattle.meaning.specs.declared.normal.Uses.{Uses}
 use Rattle.meaning.specs.declared.Refusal.{Refusal}

@@ -4,7 +4,7 @@ use mathlib.Core.Bool.{true, false}
 use mathlib.Core.List as L
 use mathlib.Core.List.{List, [], _∷_}
 use lib.IntN.{pos}
-use Rattle.lexis.specs.declared.scalar.Scalar.the-variants.{I1, F32}
+use Rattle.scalars.specs.declared.scalar.Scalar.the-variants.{I1, F32}
 use Rattle.meaning.specs.declared.Kind.the-variants as K
 use Rattle.meaning.specs.declared.Padding.the-variants.{Absent}
 use Rattle.meaning.specs.declared.Refusal.the-variants.{NoType}

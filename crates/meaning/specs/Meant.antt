@@ -9,8 +9,8 @@ use lib.Dec.{T, leb}
 use lib.IntN.{ℤ, pos}
 use lib.ListN.{length}
 use Rattle.lexis.specs.Text.{Text}
-use Rattle.lexis.specs.declared.scalar.Scalar.{Scalar}
-use Rattle.lexis.specs.declared.scalar.Scalar.the-variants.{I1}
+use Rattle.scalars.specs.declared.scalar.Scalar.{Scalar}
+use Rattle.scalars.specs.declared.scalar.Scalar.the-variants.{I1}
 use Rattle.meaning.specs.declared.Kind.{Kind}
 use Rattle.meaning.specs.declared.Kind.the-variants as K
 use Rattle.meaning.specs.declared.Padding.{Padding}

@@ -7,7 +7,7 @@ use mathlib.Core.Option.{Option, none, some}
 use lib.Dec.{leb}
 use lib.ListN.{length}
 use Rattle.lexis.specs.Text.{Text, bytes, if_then_else_, same, trim, Cut, nowhere, at, cut}
-use Rattle.lexis.specs.Names.{scalar-name}
+use Rattle.scalars.specs.Names.{scalar-name}
 use Rattle.meaning.specs.Parts.{each, bracketed, remove}
 use Rattle.meaning.specs.Found.{Found, plain, token, with-attribute, flat, within, counts}
 use Rattle.meaning.specs.Tile.{tile, tensor-view}

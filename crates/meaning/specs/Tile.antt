@@ -9,9 +9,9 @@ use lib.Dec.{eqb}
 use lib.IntN.{ℤ, pos, negℤ}
 use lib.ListN.{length, replicate}
 use Rattle.lexis.specs.Text.{Text, bytes, if_then_else_, same, trim, less-leading, less-trailing, split, Cut, nowhere, at, cut}
-use Rattle.lexis.specs.Numeral.{numeral}
-use Rattle.lexis.specs.Names.{scalar-name}
-use Rattle.lexis.specs.declared.scalar.Scalar.{Scalar}
+use Rattle.numerals.specs.Numeral.{numeral}
+use Rattle.scalars.specs.Names.{scalar-name}
+use Rattle.scalars.specs.declared.scalar.Scalar.{Scalar}
 use Rattle.meaning.specs.Parts.{each, last, front, less-repeats}
 use Rattle.meaning.specs.Found.{Entry, read, fell, Clause, stands, filled, Found, made, unused}
 use Rattle.meaning.specs.declared.Kind.the-variants as K

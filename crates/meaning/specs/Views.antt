@@ -9,7 +9,7 @@ use lib.Dec.{eqb}
 use lib.IntN.{ℤ, pos}
 use lib.ListN.{length, replicate}
 use Rattle.lexis.specs.Text.{Text, bytes, if_then_else_, trim, until, split, Cut, nowhere, at, cut, occurs}
-use Rattle.lexis.specs.Numeral.{numeral}
+use Rattle.numerals.specs.Numeral.{numeral}
 use Rattle.meaning.specs.Parts.{each, between, close}
 use Rattle.meaning.specs.Found.{Entry, Clause, stands, filled, Found, made, unused}
 use Rattle.meaning.specs.Tile.{read-or, Tensor, tensor}

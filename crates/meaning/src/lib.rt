@@ -2,11 +2,11 @@
 mod normal;
 mod refused;
 
-use lexis::Scalar;
 pub use normal::blank;
 pub use normal::is_normal;
 pub use refused::first_high;
 pub use refused::refuse;
+use scalars::Scalar;
 ghost use mathlib.Core.Path.{_≡_};
 ghost use Rattle.meaning.specs.Refusals.{number};
 

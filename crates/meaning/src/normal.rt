@@ -3,7 +3,7 @@ use crate::CAP;
 use crate::Kind;
 use crate::Padding;
 use crate::Record;
-use lexis::Scalar;
+use scalars::Scalar;
 ghost use mathlib.Core.Path.{_≡_};
 ghost use Rattle.lexis.specs.Text.{if_then_else_};
 ghost use Rattle.meaning.specs.Found.{flat, token};

@@ -9,7 +9,7 @@ use mathlib.Core.Path.{_≡_, refl, sym, ap, _∙_}
 use lib.IntN.{ℤ, pos}
 use lib.ListN.{getD}
 use Rattle.lexis.specs.Text.{if_then_else_}
-use Rattle.lexis.specs.declared.scalar.Scalar.{Scalar}
+use Rattle.scalars.specs.declared.scalar.Scalar.{Scalar}
 use Rattle.meaning.specs.Found.{Clause, stands, unused, values, padded, unreadable, made, plain, flat, counts}
 use Rattle.meaning.specs.Parts.{each}
 use Rattle.meaning.specs.Tile.{tile-of, Tensor, tensor-found}

@@ -12,9 +12,9 @@ use lib.ListN.{length, take, drop, replicate, length-take}
 use Rattle.lexis.specs.Text.{Text, bytes, less-leading, less-trailing, split, Cut, nowhere, at, cut, place, spot}
 use Rattle.lexis.specs.declared.text.Found.{Found}
 use Rattle.lexis.specs.declared.text.Found.the-variants.{At, Nowhere}
-use Rattle.lexis.specs.Names.{scalar-name, said}
-use Rattle.lexis.specs.declared.scalar.Scalar.{Scalar}
-use Rattle.lexis.specs.declared.scalar.Named.{Named}
+use Rattle.scalars.specs.Names.{scalar-name, said}
+use Rattle.scalars.specs.declared.scalar.Scalar.{Scalar}
+use Rattle.scalars.specs.declared.scalar.Named.{Named}
 use Rattle.lexis.proofs.Lists.{rest}
 use Rattle.lexis.proofs.Seeking.{cut-at, cut-within, cut-nowhere}
 use Rattle.lexis.proofs.Trimming.{leading-within, trailing-within}

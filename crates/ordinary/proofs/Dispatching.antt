@@ -10,9 +10,9 @@ use lib.Dec.{eqb}
 use borrow.Author.Tests.{eqb-true}
 use lib.ListN.{length, drop, length-drop}
 use Rattle.lexis.specs.Text.{Text, bytes, if_then_else_, same, begins}
-use Rattle.lexis.specs.Names.{scalar-name}
-use Rattle.lexis.specs.declared.scalar.Scalar.{Scalar}
-use Rattle.lexis.specs.declared.scalar.Scalar.the-variants.{I1}
+use Rattle.scalars.specs.Names.{scalar-name}
+use Rattle.scalars.specs.declared.scalar.Scalar.{Scalar}
+use Rattle.scalars.specs.declared.scalar.Scalar.the-variants.{I1}
 use Rattle.meaning.specs.Found.{Found, plain, token}
 use Rattle.meaning.specs.Parts.{each, bracketed}
 use Rattle.meaning.specs.Ordinary.{pointer, Form, by-forms, forms, unmarked}

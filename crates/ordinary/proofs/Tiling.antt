@@ -8,9 +8,9 @@ use mathlib.Core.Path.{_≡_, sym, ap, subst, _∙_}
 use lib.Dec.{eqb}
 use lib.ListN.{length, take, drop}
 use Rattle.lexis.specs.Text.{Text, bytes, trim, less-trailing, split, Cut, nowhere, at, cut, place, spot}
-use Rattle.lexis.specs.Names.{scalar-name, said}
-use Rattle.lexis.specs.declared.scalar.Scalar.{Scalar}
-use Rattle.lexis.specs.declared.scalar.Named.{Named}
+use Rattle.scalars.specs.Names.{scalar-name, said}
+use Rattle.scalars.specs.declared.scalar.Scalar.{Scalar}
+use Rattle.scalars.specs.declared.scalar.Named.{Named}
 use Rattle.lexis.specs.declared.text.Found.{Found}
 use Rattle.lexis.specs.declared.text.Found.the-variants.{At, Nowhere}
 use Rattle.lexis.proofs.Lists.{rest}

@@ -3,7 +3,7 @@ use mathlib.Core.List.{List, [], _∷_}
 use mathlib.Core.Option.{Option, none, some}
 use lib.ListN.{drop}
 use Rattle.lexis.specs.Text.{Text, bytes, if_then_else_, begins}
-use Rattle.lexis.specs.Names.{scalar-name}
+use Rattle.scalars.specs.Names.{scalar-name}
 use Rattle.meaning.specs.Found.{Found, plain}
 use Rattle.meaning.specs.Parts.{each, bracketed}
 use Rattle.meaning.specs.Ordinary.{Form, forms}

@@ -8,7 +8,7 @@ use lib.IntN.{ℤ, pos}
 use lib.Dec.{leb}
 use lib.ListN.{getD, length, take, drop}
 use Rattle.lexis.specs.Text.{Text, if_then_else_, Cut, nowhere, at}
-use Rattle.lexis.specs.declared.scalar.Scalar.{Scalar}
+use Rattle.scalars.specs.declared.scalar.Scalar.{Scalar}
 use Rattle.meaning.specs.Found.{Clause, stands, unused, Found, flat, counts}
 use Rattle.meaning.specs.Parts.{each, bracketed}
 use Rattle.meaning.specs.Tile as T

@@ -1,11 +1,11 @@
 // A type that was found, laid out as a record with its counts.
-use lexis::Scalar;
 use lists::List32;
 use lists::List64;
 use meaning::Kind;
 use meaning::Note;
 use meaning::Padding;
 use meaning::Record;
+use scalars::Scalar;
 ghost use mathlib.Core.Path.{_≡_};
 ghost use mathlib.Core.Option.{Option, none, some};
 ghost use Rattle.meaning.specs.Found.{unused};

@@ -3,10 +3,10 @@ use super::made::Parsed;
 use super::made::nothing;
 use super::made::simple;
 use lexis::Found;
-use lexis::Named;
-use lexis::Scalar;
 use lists::List64;
 use meaning::Kind;
+use scalars::Named;
+use scalars::Scalar;
 ghost use Prim.Native.Nat.{_+_, _≤_};
 ghost use mathlib.Core.Path.{_≡_};
 ghost use mathlib.Core.Option.{Option, none, some};
@@ -53,7 +53,7 @@ fn with_strides(s: &[u8], strides: &[u8]) -> Tensor
     let f = lists::parse_front(s);
     let last = f.last;
     let shape = f.dims;
-    match lexis::parse_scalar(&s[last..]) {
+    match scalars::parse_scalar(&s[last..]) {
         Named::Is(element) => Tensor {
             found: true,
             element,
@@ -72,7 +72,7 @@ fn without_strides(s: &[u8]) -> Tensor
     let f = lists::parse_front(s);
     let last = f.last;
     let shape = f.dims;
-    match lexis::parse_scalar(&s[last..]) {
+    match scalars::parse_scalar(&s[last..]) {
         Named::Is(element) => Tensor {
             found: true,
             element,

@@ -4,9 +4,9 @@ use super::made::nothing;
 use super::made::simple;
 use super::repeats::trim_end_repeats;
 use lexis::Found;
-use lexis::Named;
 use lists::List64;
 use meaning::Kind;
+use scalars::Named;
 ghost use Prim.Native.Nat.{_≤_};
 ghost use mathlib.Core.Path.{_≡_};
 ghost use mathlib.Core.Bool.{true, false};
@@ -35,7 +35,7 @@ fn pointer_tile(before: &[u8], after: &[u8]) -> Parsed
     ensures { λ r. ⌜ said r ≡ each (shown 8) (each (tile-of true (dimensions (before-pointer (less-repeats (bytes "!cuda_tile.") (trim (now (before .entry))))))) (pointee (cut (bytes ">") (now (after .entry))))) ⌝ }
 {
     match lexis::find(after, b">") {
-        Found::At(n) => match lexis::parse_scalar(&after[..n]) {
+        Found::At(n) => match scalars::parse_scalar(&after[..n]) {
             Named::Is(e) => simple(Kind::Tile, e, true, pointer_shape(before), lists::none64()),
             Named::Unknown => nothing(),
         },
@@ -62,7 +62,7 @@ fn scalar_tile(inner: &[u8]) -> Parsed
     let f = lists::parse_front(inner);
     let last = f.last;
     let dims = f.dims;
-    match lexis::parse_scalar(&inner[last..]) {
+    match scalars::parse_scalar(&inner[last..]) {
         Named::Is(e) => simple(Kind::Tile, e, false, dims, lists::none64()),
         Named::Unknown => nothing(),
     }

@@ -12,14 +12,14 @@ use super::views::parse_gather_scatter_view;
 use super::views::parse_partition_view;
 use super::views::parse_strided_view;
 use lexis::Found;
-use lexis::Named;
-use lexis::Scalar;
 use meaning::CAP;
 use meaning::Kind;
 use meaning::Reading;
 use meaning::Record;
 use meaning::Refusal;
 use meaning::refuse;
+use scalars::Named;
+use scalars::Scalar;
 ghost use Prim.Native.Nat.{suc, _≤_};
 ghost use mathlib.Core.Path.{_≡_};
 ghost use mathlib.Core.Option.{Option, some};
@@ -41,7 +41,7 @@ fn plain(kind: Kind, element: Scalar) -> Parsed
 fn parse_ptr(inner: &[u8]) -> Parsed
     ensures { λ r. ⌜ said r ≡ each (shown 8) (pointer (now (inner .entry))) ⌝ }
 {
-    match lexis::parse_scalar(inner) {
+    match scalars::parse_scalar(inner) {
         Named::Is(e) => plain(Kind::Pointer, e),
         Named::Unknown => nothing(),
     }
@@ -51,7 +51,7 @@ fn parse_ptr(inner: &[u8]) -> Parsed
 fn parse_bare(s: &[u8]) -> Parsed
     ensures { λ r. ⌜ said r ≡ each (shown 8) (bare (now (s .entry))) ⌝ }
 {
-    match lexis::parse_scalar(s) {
+    match scalars::parse_scalar(s) {
         Named::Is(e) => plain(Kind::Scalar, e),
         Named::Unknown => nothing(),
     }

@@ -1,13 +1,13 @@
 // A reading as the list writes it: `1`, `2 @PLACE`, or `0 KIND ELEMENT pointer=0 .. counts=0,0,0,0`.
 ghost use mathlib.Core.Path.{_≡_};
 ghost use lib.IntN.{natAbs};
-use lexis::Scalar;
 use meaning::CAP;
 use meaning::Kind;
 use meaning::Note;
 use meaning::Padding;
 use meaning::Reading;
 use meaning::Record;
+use scalars::Scalar;
 
 // Where nothing more fits, nothing is written.
 pub fn put_byte(out: &mut [u8], at: usize, b: u8) -> usize {

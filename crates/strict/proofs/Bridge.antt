@@ -7,7 +7,7 @@ use mathlib.Core.Path.{_≡_, refl, subst, sym, ap, _∙_}
 use lib.Dec.{T, eqb, ltb}
 use borrow.Author.Tests.{ne-eqb}
 use Rattle.lexis.specs.Text.{bytes}
-use Rattle.lexis.specs.declared.scalar.Scalar.{Scalar}
+use Rattle.scalars.specs.declared.scalar.Scalar.{Scalar}
 use Rattle.grammar.specs.Piece.{Answer, got, stuck}
 use Rattle.grammar.specs.Join.{mapped, after}
 use Rattle.grammar.specs.Table.{pick, sound-table}

@@ -10,7 +10,7 @@ use lib.Dec.{leb}
 use lib.IntN.{ℤ}
 use lib.ListN.{length, drop, getD, length-append, drop-of-length-le}
 use Rattle.lexis.specs.Text.{Text, if_then_else_}
-use Rattle.lexis.specs.declared.scalar.Scalar.{Scalar}
+use Rattle.scalars.specs.declared.scalar.Scalar.{Scalar}
 use Rattle.lists.proofs.Laying.{slot}
 use Rattle.meaning.specs.declared.Padding.{Padding}
 use Rattle.meaning.specs.declared.Reading.{Reading}

@@ -13,7 +13,7 @@ use borrow.Author.Tests.{ne-eqb}
 use Rattle.grammar.specs.Tests.{and-left, and-right}
 use Rattle.grammar.specs.Tests.{and-in}
 use Rattle.grammar.specs.Tests.{is-true, T-not-eq}
-use Rattle.lexis.specs.Numeral.{digit}
+use Rattle.numerals.specs.Numeral.{digit}
 use Rattle.grammar.specs.Piece.{Answer, got, stuck, member}
 use Rattle.grammar.specs.Number as N
 use Rattle.grammar.specs.Number.{in-nine, nine-in}

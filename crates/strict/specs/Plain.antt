@@ -5,8 +5,8 @@ use mathlib.Core.List.{[], _∷_}
 use lib.Dec.{leb}
 use lib.IntN.{ℤ}
 use Rattle.lexis.specs.Text.{if_then_else_}
-use Rattle.lexis.specs.declared.scalar.Scalar.{Scalar}
-use Rattle.lexis.specs.declared.scalar.Scalar.the-variants.{I1}
+use Rattle.scalars.specs.declared.scalar.Scalar.{Scalar}
+use Rattle.scalars.specs.declared.scalar.Scalar.the-variants.{I1}
 use Rattle.meaning.specs.declared.Kind.{Kind}
 use Rattle.meaning.specs.declared.Padding.{Padding}
 use Rattle.meaning.specs.declared.Padding.the-variants as P

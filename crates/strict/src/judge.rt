@@ -1,7 +1,6 @@
 // What was read, laid out as a record and judged: refusal 5, then refusal 4.
 use super::whole::Whole;
 use super::whole::read_whole;
-use lexis::Scalar;
 use meaning::CAP;
 use meaning::Note;
 use meaning::Padding;
@@ -9,6 +8,7 @@ use meaning::Reading;
 use meaning::Record;
 use meaning::Refusal;
 use meaning::refuse;
+use scalars::Scalar;
 ghost use mathlib.Core.Path.{_≡_};
 ghost use mathlib.Core.Bool.{_&&_};
 ghost use lib.Dec.{leb};

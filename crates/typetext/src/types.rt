@@ -6,10 +6,10 @@ use super::say::say;
 use super::say::say_signed;
 use super::text::behind;
 use super::text::prefix;
-use lexis::Scalar;
 use meaning::Kind;
 use meaning::Padding;
 use meaning::Record;
+use scalars::Scalar;
 
 // Where a scalar's name stands in the table of names: each has nine places.
 fn name_at(s: Scalar) -> usize {

@@ -9,7 +9,7 @@ use lib.Dec.{lit≤}
 use lib.IntN.{pos, negsuc}
 use lib.ListN.{length, replicate}
 use Rattle.lexis.specs.Text.{Text, if_then_else_}
-use Rattle.lexis.specs.declared.scalar.Scalar.the-variants.{F8E8M0FNU}
+use Rattle.scalars.specs.declared.scalar.Scalar.the-variants.{F8E8M0FNU}
 use Rattle.meaning.specs.declared.Kind.the-variants as K
 use Rattle.meaning.specs.declared.Padding.the-variants.{NegZero}
 use Rattle.meaning.specs.declared.Record.{Record}

@@ -13,8 +13,8 @@ use lib.Dec.{T, eqb, leb, eqb·suc-zero}
 use lib.IntN.{ℤ, pos}
 use lib.ListN.{length, replicate}
 use Rattle.lexis.specs.Text.{Text, bytes, if_then_else_, same, trim, split, onto-first, less-leading, less-trailing, Cut, nowhere, at, cut}
-use Rattle.lexis.specs.Names.{scalar-name}
-use Rattle.lexis.specs.declared.scalar.Scalar.{Scalar}
+use Rattle.scalars.specs.Names.{scalar-name}
+use Rattle.scalars.specs.declared.scalar.Scalar.{Scalar}
 use Rattle.meaning.specs.declared.Kind.{Kind}
 use Rattle.meaning.specs.declared.Kind.the-variants as K
 use Rattle.meaning.specs.declared.Record.{Record}

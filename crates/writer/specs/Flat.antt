@@ -8,7 +8,7 @@ use lib.Dec.{eqb}
 use lib.IntN.{ℤ}
 use lib.ListN.{length}
 use Rattle.lexis.specs.Text.{Text, bytes}
-use Rattle.lexis.specs.declared.scalar.Scalar.{Scalar}
+use Rattle.scalars.specs.declared.scalar.Scalar.{Scalar}
 use Rattle.meaning.specs.declared.Kind.{Kind}
 use Rattle.meaning.specs.declared.Kind.the-variants as K
 use Rattle.meaning.specs.declared.Padding.{Padding}

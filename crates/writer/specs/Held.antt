@@ -3,7 +3,7 @@ use Prim.Native.Nat.{ℕ, zero, suc}
 use mathlib.Core.List.{[], _∷_}
 use lib.ListN.{length}
 use Rattle.lexis.specs.Text.{Text}
-use Rattle.lexis.specs.declared.scalar.Scalar.{Scalar}
+use Rattle.scalars.specs.declared.scalar.Scalar.{Scalar}
 use Rattle.meaning.specs.declared.Padding.{Padding}
 use Rattle.writer.specs.Flat.{word-of, pad-text}
 use Rattle.writer.specs.declared.names.Name.{Name}

@@ -1,7 +1,7 @@
 // Names of scalars and clauses of paddings, put from arrays.
 use super::put::put_bytes;
-use lexis::Scalar;
 use meaning::Padding;
+use scalars::Scalar;
 ghost use mathlib.Core.Path.{_≡_};
 ghost use Prim.Native.Nat.{ℕ, _+_, _≤_};
 ghost use lib.ListN.{length};

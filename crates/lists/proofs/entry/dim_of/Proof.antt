@@ -2,7 +2,7 @@
 use borrow.Author.Needs.{needs}
 use mathlib.Core.Path.{sym, ap, _∙_}
 use lib.IntN.{ℤ}
-use Rattle.lexis.specs.Numeral as N
+use Rattle.numerals.specs.Numeral as N
 use Rattle.meaning.specs.Found.{read}
 use Rattle.lists.proofs.Entries as L
 use Rattle.lists.proofs.entry.dim_of.Statement.{statement}

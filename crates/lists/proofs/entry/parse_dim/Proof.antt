@@ -1,7 +1,7 @@
 -- A dimension, by the numeral's answer on the trimmed text.
 use borrow.Author.Needs.{needs}
 use mathlib.Core.Path.{ap, _∙_}
-use Rattle.lexis.specs.Numeral.{numeral}
+use Rattle.numerals.specs.Numeral.{numeral}
 use Rattle.lists.proofs.entry.parse_dim.Statement.{statement}
 use Rattle.lists.proofs.entry.parse_dim.Tie as tie
 

@@ -1,7 +1,7 @@
 -- `parse_ptr` meets its contract: the name decides.
 use mathlib.Core.Path.{sym, ap, _∙_}
 use borrow.Author.Needs.{needs}
-use Rattle.lexis.specs.Names.{said}
+use Rattle.scalars.specs.Names.{said}
 use Rattle.ordinary.proofs.Dispatching as L
 use Rattle.ordinary.proofs.types.parse_ptr.Statement.{statement}
 use Rattle.ordinary.proofs.types.parse_ptr.Tie as tie

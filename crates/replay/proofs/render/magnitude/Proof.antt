@@ -2,7 +2,7 @@
 use lib.Signed.{mag}
 use mir.Syntax.{w64}
 use mir.ValLaws.{toZ-ofZ, toZ-pos}
-use Rattle.lexis.proofs.Signed as L
+use Rattle.numerals.proofs.Signed as L
 use native.Mathlib.Omega.{arith}
 use Rattle.replay.proofs.render.magnitude.Statement.{statement}
 use Rattle.replay.proofs.render.magnitude.Tie as tie

@@ -1,5 +1,5 @@
 -- A 32-bit number keeps its value at 64 bits.
-use Rattle.lexis.proofs.Signed as L
+use Rattle.numerals.proofs.Signed as L
 use mir.ValLaws.{toZ-ofZ}
 use mir.Syntax.{w32}
 use Rattle.replay.proofs.render.wide.Statement.{statement}

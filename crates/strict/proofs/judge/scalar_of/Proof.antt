@@ -1,6 +1,6 @@
 -- `scalar_of` meets its contract: its table is the definition's.
 use borrow.Author.Needs.{needs}
-use Rattle.lexis.specs.declared.scalar.Scalar.the-variants.{I1}
+use Rattle.scalars.specs.declared.scalar.Scalar.the-variants.{I1}
 use Rattle.meaning.specs.Strict.{scalars}
 use Rattle.strict.proofs.Judging as L
 use Rattle.strict.proofs.judge.scalar_of.Statement.{statement}

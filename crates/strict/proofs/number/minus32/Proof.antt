@@ -1,5 +1,5 @@
 -- `minus32` meets its contract, by the laws of Numbers.
-use Rattle.lexis.proofs.Sign.{minus-fits, minus-is}
+use Rattle.numerals.proofs.Sign.{minus-fits, minus-is}
 use mir.Syntax.{w32}
 use borrow.Author.Needs.{needs}
 use Rattle.strict.proofs.number.minus32.Statement.{statement}

@@ -3,7 +3,7 @@ use native.Mathlib.Omega.{arith}
 use lib.Signed.{mag}
 use mir.Syntax.{w64}
 use mir.ValLaws.{toZ-ofZ, toZ-pos}
-use Rattle.lexis.proofs.Signed as L
+use Rattle.numerals.proofs.Signed as L
 use Rattle.writer.proofs.put.magnitude.Statement.{statement}
 use Rattle.writer.proofs.put.magnitude.Tie as tie
 

@@ -2,7 +2,7 @@
 use borrow.Author.Needs.{needs}
 use mir.Syntax.{w32}
 use mir.ValLaws.{toZ-ofZ}
-use Rattle.lexis.proofs.Signed as L
+use Rattle.numerals.proofs.Signed as L
 use Rattle.writer.proofs.put.put_small.Statement.{statement}
 use Rattle.writer.proofs.put.put_small.Tie as tie
 

@@ -1,0 +1,230 @@
+-- Laws of a part that is walked once: white bytes, a sign, digits up to the separator x, which is none of these.
+-- What is passed is left out of the part's length, of its trimmed text and of its number.
+use mathlib.Core.Path.{_≡_, refl, sym, ap, subst, _∙_}
+use mathlib.Core.Bool.{Bool, true, false, _&&_, _||_, not, false≢true}
+use mathlib.Core.List.{[], _∷_}
+use mathlib.Core.Option.{none, some}
+use Prim.Native.Nat.{ℕ, _+_, _-_, _*_, _^_, _≤_, _<_}
+use native.Mathlib.Omega.{arith}
+use borrow.Author.Tests.{eqb-true, leb-true, ne-eqb, eq-eqb, le-leb, lt-leb}
+use lib.Dec.{eqb, leb}
+use lib.IntN.{pos}
+use lib.ListN.{length, take, drop, getD, drop-of-length-le}
+use Rattle.lexis.specs.Text.{Text, if_then_else_, until, less-trailing, unless-last, white, trim}
+use Rattle.numerals.specs.Numeral.{digit, number-from, number, minus, numeral}
+use Rattle.numerals.specs.Parts.{ink, apart}
+use Rattle.lexis.proofs.Lists.{view}
+use Rattle.lexis.proofs.Seeking.{until-step, until-stop, until-take}
+
+-- ── digits: those from the place k on up to i wrote n ──
+
+module _ (x : ℕ) where
+  pub record Running (s : Text) (k i n : ℕ) : Type 0 where
+    pub onward : k ≤ i
+    pub len : k + length (until (eqb x) (drop k s)) ≡ i + length (until (eqb x) (drop i s))
+    pub same : number-from 0 (until (eqb x) (drop k s)) ≡ number-from n (until (eqb x) (drop i s))
+
+  pub begun : (s : Text) (k : ℕ) → Running s k k 0
+  begun s k = record { onward = omega arith; len = refl; same = refl }
+
+-- ── the separator ──
+
+module _ (x : ℕ) (f : apart x ≡ true) where
+  far : (b : ℕ) → (b ≡ 44 → ⊥) → b < 58 → eqb x b ≡ false
+  far b n h = by (eqb x 44) (leb 58 x) (eqb-true x 44) (leb-true 58 x) f
+    where
+      by : (c d : Bool) → (c ≡ true → x ≡ 44) → (d ≡ true → 58 ≤ x) → c || d ≡ true → eqb x b ≡ false
+      by true d p q e = ne-eqb x b (λ k. n (sym k ∙ p refl))
+      by false true p q e = ne-eqb x b (λ k. let g = q refl in omega arith)
+      by false false p q e = absurd (false≢true e)
+
+  -- ── white bytes in front ──
+
+  white-low : (b : ℕ) → white b ≡ true → (b ≡ 44 → ⊥) × (b < 58)
+  white-low b e = by (leb 9 b) (leb b 13) (eqb b 32) (leb-true b 13) (eqb-true b 32) e
+    where
+      by : (c d g : Bool) → (d ≡ true → b ≤ 13) → (g ≡ true → b ≡ 32) → (c && d) || g ≡ true → (b ≡ 44 → ⊥) × (b < 58)
+      by true true g p q e = let h = p refl in (λ k. omega arith, omega arith)
+      by true false true p q e = let h = q refl in (λ k. omega arith, omega arith)
+      by true false false p q e = absurd (false≢true e)
+      by false d true p q e = let h = q refl in (λ k. omega arith, omega arith)
+      by false d false p q e = absurd (false≢true e)
+
+  abbrev first : Text → ℕ
+  first t = length (until ink t)
+
+  pub len-behind : (t : Text) → length (until (eqb x) t) ≡ first t + length (until (eqb x) (drop (first t) t))
+  len-behind [] = refl
+  len-behind (b ∷ t) = by (white b) (λ e. far b (white-low b e .0) (white-low b e .1)) (len-behind t)
+    where
+      n : Bool → ℕ
+      n c = length (if not c then [] else b ∷ until ink t)
+
+      by : (c : Bool) → (c ≡ true → eqb x b ≡ false) → length (until (eqb x) t) ≡ first t + length (until (eqb x) (drop (first t) t))
+          → length (until (eqb x) (b ∷ t)) ≡ n c + length (until (eqb x) (drop (n c) (b ∷ t)))
+      by true g r = rw (g refl) (omega arith)
+      by false g r = omega arith
+
+  pub trim-behind : (t : Text) → trim (until (eqb x) t) ≡ trim (until (eqb x) (drop (first t) t))
+  trim-behind [] = refl
+  trim-behind (b ∷ t) = by (white b) refl (λ e. far b (white-low b e .0) (white-low b e .1)) (trim-behind t)
+    where
+      n : Bool → ℕ
+      n c = length (if not c then [] else b ∷ until ink t)
+
+      by : (c : Bool) → white b ≡ c → (c ≡ true → eqb x b ≡ false) → trim (until (eqb x) t) ≡ trim (until (eqb x) (drop (first t) t))
+          → trim (until (eqb x) (b ∷ t)) ≡ trim (until (eqb x) (drop (n c) (b ∷ t)))
+      by true w g r = rw (g refl, w) r
+      by false w g r = refl
+
+  -- ── one digit more, and the end ──
+
+  module _ {s : Text} {k i n : ℕ} (g : Running x s k i n) where
+    pub step : {b : ℕ} → b ≡ getD s i 0 → i < length s → 48 ≤ b → b ≤ 57 → Running x s k (i + 1) (n * 10 + (b - 48))
+    step {b} m h l u =
+        let o : (b ≡ 44 → ⊥) = λ e. omega arith in
+        let e : until (eqb x) (drop i s) ≡ b ∷ until (eqb x) (drop (i + 1) s) = rw (view s i h, sym m, far b o (omega arith)) in
+        record {
+          onward = omega (arith, g .onward);
+          len = g .len ∙ ap (λ (v : Text). i + length v) e ∙ omega arith;
+          same = g .same ∙ ap (number-from n) e ∙ rw (le-leb 48 b l, le-leb b 57 u);
+        }
+
+    ended : until (eqb x) (drop i s) ≡ [] → (i ≡ k → ⊥)
+        → (i ≡ k + length (until (eqb x) (drop k s))) × (number (until (eqb x) (drop k s)) ≡ some n)
+    ended e m =
+        let l : k + length (until (eqb x) (drop k s)) ≡ i + 0 = g .len ∙ ap (λ (v : Text). i + length v) e in
+        (omega arith, by (until (eqb x) (drop k s)) (omega (arith, g .onward)) (g .same ∙ ap (number-from n) e))
+      where
+        by : (u : Text) → 0 < length u → number-from 0 u ≡ some n → number u ≡ some n
+        by [] h e = let f : ⊥ = omega arith in absurd f
+        by (b ∷ u) h e = e
+
+    pub at-end : length s ≤ i → (i ≡ k → ⊥) → (i ≡ k + length (until (eqb x) (drop k s))) × (number (until (eqb x) (drop k s)) ≡ some n)
+    at-end h = ended (rw (drop-of-length-le s h))
+
+    pub at-next : i < length s → getD s i 0 ≡ x → (i ≡ k → ⊥) → (i ≡ k + length (until (eqb x) (drop k s))) × (number (until (eqb x) (drop k s)) ≡ some n)
+    at-next h e = ended (rw (view s i h, eq-eqb x (getD s i 0) (sym e)))
+
+  pub zero-more : {s : Text} {k i : ℕ} → Running x s k i 0 → i < length s → getD s i 0 ≡ 48 → Running x s k (i + 1) 0
+  zero-more {s} {k} {i} g h e =
+      let z : 0 * 10 + (getD s i 0 - 48) ≡ 0 = omega arith in
+      subst (λ (m : ℕ). Running x s k (i + 1) m) z (step g refl h (omega arith) (omega arith))
+
+-- ── what the trimmed part is ──
+
+kept : (b : ℕ) (u : Text) → white b ≡ false → unless-last white b u ≡ b ∷ u
+kept b [] e = rw e
+kept b (c ∷ u) e = refl
+
+black : (b : ℕ) → 32 < b → white b ≡ false
+black b h = rw (le-leb 9 b (omega arith), lt-leb b 13 (omega arith), ne-eqb b 32 (λ e. omega arith))
+
+record Digit (b : ℕ) : Type 0 where
+  low : 48 ≤ b
+  high : b ≤ 57
+
+is-digit : (b : ℕ) → digit b ≡ true → Digit b
+is-digit b e = by (leb 48 b) (leb b 57) (leb-true 48 b) (leb-true b 57) e
+  where
+    by : (c d : Bool) → (c ≡ true → 48 ≤ b) → (d ≡ true → b ≤ 57) → c && d ≡ true → Digit b
+    by true d p q e = record { low = p refl; high = q e }
+    by false d p q e = absurd (false≢true e)
+
+pub absent : {A : Type 0} {n : A} → none ≡ some n → ⊥
+absent e = let z : _≡_ {A = ℕ} 0 1 = cc in omega arith
+
+-- digits have nothing to trim
+tight : (m : ℕ) (u : Text) {n : ℕ} → number-from m u ≡ some n → less-trailing white u ≡ u
+tight m [] e = refl
+tight m (b ∷ u) {n} e = by (digit b) (is-digit b) (tight (m * 10 + (b - 48)) u) e
+  where
+    by : (d : Bool) → (d ≡ true → Digit b) → (number-from (m * 10 + (b - 48)) u ≡ some n → less-trailing white u ≡ u)
+        → if d then number-from (m * 10 + (b - 48)) u else none ≡ some n → less-trailing white (b ∷ u) ≡ b ∷ u
+    by true g r e = ap (unless-last white b) (r e) ∙ kept b u (black b (let h = g refl .low in omega arith))
+    by false g r e = absurd (absent e)
+
+-- ── the whole part, where white bytes stand before i ──
+
+module _ (x : ℕ) (f : apart x ≡ true) (s : Text) {i : ℕ} (a : i ≡ length (until ink s)) where
+  whole-trim : trim (until (eqb x) s) ≡ trim (until (eqb x) (drop i s))
+  whole-trim = rw a (trim-behind x f s)
+
+  pub plus-len : {e : ℕ} → e ≡ i + length (until (eqb x) (drop i s)) → e ≡ length (until (eqb x) s)
+  plus-len p = p ∙ sym (rw a (len-behind x f s))
+
+  module _ (h : i < length s) (k : getD s i 0 ≡ 45) where
+    behind-sign : until (eqb x) (drop i s) ≡ 45 ∷ until (eqb x) (drop (i + 1) s)
+    behind-sign = rw (view s i h, k, far x f 45 (λ m. omega arith) (omega arith))
+
+    pub minus-len : {e : ℕ} → e ≡ (i + 1) + length (until (eqb x) (drop (i + 1) s)) → e ≡ length (until (eqb x) s)
+    minus-len {e} p = let l = ap length behind-sign in plus-len (let o : e ≡ i + length (until (eqb x) (drop i s)) = omega arith in o)
+
+module _ (w : ℕ) where
+  plain : (u : Text) {n : ℕ} → number u ≡ some n → n ≤ 2 ^ (w - 1) - 1 → numeral w (trim u) ≡ some (pos n)
+  plain [] e h = absurd (absent e)
+  plain (b ∷ u) {n} e h = by (digit b) (is-digit b) (tight 0 (b ∷ u) e) e
+    where
+      by : (d : Bool) → (d ≡ true → Digit b) → less-trailing white (b ∷ u) ≡ b ∷ u
+          → if d then number-from (0 * 10 + (b - 48)) u else none ≡ some n → numeral w (trim (b ∷ u)) ≡ some (pos n)
+      by true g r q =
+          let k = g refl .low in
+          rw (black b (omega arith), r, ne-eqb b 45 (λ m. omega arith), ne-eqb b 43 (λ m. omega arith), e, le-leb n (2 ^ (w - 1) - 1) h)
+      by false g r q = absurd (absent q)
+
+  signed : (u : Text) {n : ℕ} → number u ≡ some n → n ≤ 2 ^ (w - 1) → numeral w (trim (45 ∷ u)) ≡ some (minus n)
+  signed [] e h = absurd (absent e)
+  signed (b ∷ u) {n} e h = rw (tight 0 (b ∷ u) e, e, le-leb n (2 ^ (w - 1)) h)
+
+  strange : (x b : ℕ) (t : Text) → 57 < b → numeral w (trim (until (eqb x) (b ∷ t))) ≡ none
+  strange x b t h = by (eqb x b)
+    where
+      by : (d : Bool) → numeral w (trim (if d then [] else b ∷ until (eqb x) t)) ≡ none
+      by true = refl
+      by false =
+          let k = kept b (less-trailing white (until (eqb x) t)) (black b (omega arith)) in
+          rw (black b (omega arith), k, ne-eqb b 45 (λ m. omega arith), ne-eqb b 43 (λ m. omega arith), le-leb 48 b (omega arith), lt-leb b 57 h)
+
+  -- the numeral of the whole part
+  module _ (x : ℕ) (f : apart x ≡ true) (s : Text) {i : ℕ} (a : i ≡ length (until ink s)) where
+    pub no-numeral : i < length s → 57 < getD s i 0 → none ≡ numeral w (trim (until (eqb x) s))
+    no-numeral h k =
+        sym (ap (numeral w) (whole-trim x f s a) ∙ ap (λ (t : Text). numeral w (trim (until (eqb x) t))) (view s i h)
+        ∙ strange x (getD s i 0) (drop (i + 1) s) k)
+
+    pub plus-part : {n : ℕ} → number (until (eqb x) (drop i s)) ≡ some n → n ≤ 2 ^ (w - 1) - 1 → some (pos n) ≡ numeral w (trim (until (eqb x) s))
+    plus-part q r = sym (ap (numeral w) (whole-trim x f s a) ∙ plain (until (eqb x) (drop i s)) q r)
+
+    pub minus-part : {n : ℕ} → i < length s → getD s i 0 ≡ 45 → number (until (eqb x) (drop (i + 1) s)) ≡ some n → n ≤ 2 ^ (w - 1)
+        → some (minus n) ≡ numeral w (trim (until (eqb x) s))
+    minus-part h k q r =
+        sym (ap (numeral w) (whole-trim x f s a) ∙ ap (λ (t : Text). numeral w (trim t)) (behind-sign x f s a h k)
+        ∙ signed (until (eqb x) (drop (i + 1) s)) q r)
+
+-- ── a part that is sought first: its k bytes ──
+
+module _ (p : ℕ → Bool) (t : Text) {k : ℕ} (u : k ≡ length (until p t)) where
+  taken : take k t ≡ until p t
+  taken = rw (u, until-take p t)
+
+  pub until-part : k ≡ length (take k t)
+  until-part = u ∙ ap length (sym taken)
+
+  pub sought-part : (w : ℕ) {s : Text} → s ≡ trim (take k t) → numeral w s ≡ numeral w (trim (until p t))
+  sought-part w e = ap (numeral w) (e ∙ ap trim taken)
+
+-- ── how many white bytes stand in front ──
+
+module _ (s : Text) (h : 2 ≤ length s) where
+  pub none-white : white (getD s 0 0) ≡ false → 0 ≡ length (until ink s)
+  none-white e = sym (ap length (ap (until ink) (view s 0 (omega arith))) ∙ rw e)
+
+  module _ (e : white (getD s 0 0) ≡ true) where
+    one-more : length (until ink s) ≡ 1 + length (until ink (drop 1 s))
+    one-more = ap length (ap (until ink) (view s 0 (omega arith))) ∙ rw e (omega arith)
+
+    pub one-white : white (getD s 1 0) ≡ false → 1 ≡ length (until ink s)
+    one-white k = sym (one-more ∙ until-stop ink s 1 (omega arith) (ap not k))
+
+    pub two-white : white (getD s 1 0) ≡ true → 2 + length (until ink (drop 2 s)) ≡ length (until ink s)
+    two-white k = sym (one-more ∙ until-step ink s 1 (omega arith) (ap not k))

@@ -1,0 +1,49 @@
+-- `run` meets its contract: zeros, then digits have been passed up to i, and wrote n.
+use Rattle.numerals.proofs.Walking as L
+use lib.ListN.{length}
+use Prim.Native.Nat.{_-_, _^_, _<_}
+use mathlib.Core.Path.{_≡_, sym}
+use borrow.Author.Needs.{needs}
+use Rattle.numerals.proofs.part.run.Statement.{statement}
+use Rattle.numerals.proofs.part.run.Tie as tie
+
+abbrev Inv : tie.InvT-loop
+Inv text x from most i₀ i = L.Running x text from i 0
+
+abbrev μ : tie.MeasureT-loop
+μ text x from most i₀ i = length text - i
+
+abbrev Inv2 : tie.InvT-loop2
+Inv2 text x from most i₀ n₀ i n = L.Running x text from i n × (n < 2 ^ 63)
+
+abbrev μ2 : tie.MeasureT-loop2
+μ2 text x from most i₀ n₀ i n = length text - i
+
+pub run-spec : {M : Type 1} → statement M
+run-spec =
+    tie.close
+    (tie.spec Inv μ Inv2 μ2
+    (λ c. L.begun _ _ _)
+    (λ c. search needs)
+    (λ c. search needs)
+    (λ c. search needs)
+    (λ c. let l = c .before .before .before in L.zero-more _ (l .before .before .pre) (l .loop .inv) (search needs) (search needs))
+    (λ c. (c .before .loop .inv, search needs))
+    (λ c. search needs)
+    (λ c κs. search needs)
+    (λ c. tt)
+    (λ c. search needs)
+    (λ c. search needs)
+    (λ c. search needs)
+    (λ c. search needs)
+    (λ c. let p = c .before .before .before in let l = p .before .before .before in
+    (L.step _ (l .before .before .before .before .pre) (l .loop2 .inv .0) (p .wide .ensures) (search needs) (search needs) (search needs), search needs))
+    (λ c. tt)
+    (λ c. tt)
+    (λ c. search needs)
+    (λ c. tt)
+    (λ c. let l = c .before .before .before .before .before .before in
+    let w = L.at-next _ (l .before .before .before .before .pre) (l .loop2 .inv .0) (search needs) (search needs) (c .before .before .before .before .if5 .left) in
+    (w .0, w .1, search needs))
+    (λ c. let l = c .before .before .before .before in
+    let w = L.at-end _ (l .before .before .before .before .pre) (l .loop2 .inv .0) (search needs) (c .before .before .if5 .left) in (w .0, w .1, search needs)))
