@@ -29,9 +29,9 @@ pub(crate) fn parse_tensor(inner: &[u8]) -> Tensor
     requires { ⌜ length (now inner) ≤ 1024 ⌝ }
     ensures { λ r. ⌜ Tensor-is r (tensor (now (inner .entry))) ⌝ }
 {
-    match lexis::find(inner, b", strides=") {
+    match lexis::find_by(inner, b", strides=", 9) {
         Found::At(i) => around(inner, i, 10),
-        Found::Nowhere => match lexis::find(inner, b",strides=") {
+        Found::Nowhere => match lexis::find_by(inner, b",strides=", 8) {
             Found::At(i) => around(inner, i, 9),
             Found::Nowhere => without_strides(inner),
         },
