@@ -9,7 +9,7 @@ use native.Mathlib.Omega.{arith}
 use lib.Dec.{eqb}
 use lib.ListN.{length, take, drop, getD, drop-of-length-le}
 use lib.Seq.{drop-nil}
-use borrow.Author.Tests.{eq-eqb, ne-eqb}
+use borrow.Author.Tests.{eq-eqb, ne-eqb, eqb-true, eqb-false}
 use Rattle.lexis.specs.Text.{if_then_else_, same, begins, after, Cut, nowhere, at, later, cut, found, place, until}
 use Rattle.lexis.proofs.Lists.{view}
 
@@ -29,6 +29,13 @@ pub all-passed : (p t : List ℕ) (j : ℕ) → length p ≤ j → begins (drop 
 all-passed p t j l = rw (drop-of-length-le p l)
 
 -- ── equality ──
+
+pub turned : (a b : ℕ) → eqb a b ≡ eqb b a
+turned a b = by (eqb a b) refl
+  where
+    by : (d : Bool) → eqb a b ≡ d → d ≡ eqb b a
+    by true e = sym (eq-eqb b a (sym (eqb-true a b e)))
+    by false e = sym (ne-eqb b a (λ f. eqb-false a b e (sym f)))
 
 pub never : (d : Bool) → d && false ≡ false
 never true = refl
@@ -127,7 +134,7 @@ until-take p (b ∷ s) = by (p b) (until-take p s)
 
 -- ── for callers: a prefix and a first place, by the bytes taken and left ──
 
-right : (x y : Bool) → x && y ≡ true → y ≡ true
+pub right : (x y : Bool) → x && y ≡ true → y ≡ true
 right true y e = e
 right false y e = absurd (false≢true e)
 

@@ -6,14 +6,13 @@ use mathlib.Core.Bool.{Bool, true, false, _||_, _&&_, not}
 use mathlib.Core.List.{List, [], _∷_}
 use mathlib.Core.Option.{none, some}
 use mathlib.Core.Path.{_≡_, refl, sym, ap, _∙_}
-use borrow.Author.Tests.{eq-eqb, ne-eqb, eqb-true, eqb-false}
 use lib.Dec.{eqb}
 use lib.IntN.{ℤ, pos}
 use lib.ListN.{length, take, drop, length-take, length-drop}
 use lib.Seq.{drop-drop, length-take-le}
 use Rattle.lexis.specs.Text.{Text, bytes, if_then_else_, split, Cut, nowhere, at, cut, place, occurs, until}
 use Rattle.lexis.proofs.Lists.{rest}
-use Rattle.lexis.proofs.Seeking.{cut-at, cut-within, cut-nowhere, until-take, until-within}
+use Rattle.lexis.proofs.Seeking.{turned, cut-at, cut-within, cut-nowhere, until-take, until-within}
 use Rattle.meaning.specs.Found.{Clause, stands, filled}
 use Rattle.meaning.specs.Views as W
 use Rattle.meaning.specs.declared.Padding.{Padding}
@@ -118,13 +117,6 @@ unfolding W.entries
 entries-are s e = e
 
 -- ── the sparse dimension ──
-
-pub turned : (a b : ℕ) → eqb a b ≡ eqb b a
-turned a b = by (eqb a b) refl
-  where
-    by : (d : Bool) → eqb a b ≡ d → d ≡ eqb b a
-    by true e = sym (eq-eqb b a (sym (eqb-true a b e)))
-    by false e = sym (ne-eqb b a (λ f. eqb-false a b e (sym f)))
 
 -- up to either byte: up to the one, of what stands before the other
 either : (t : Text) → until W.ends-sparse t ≡ until (eqb 62) (until (eqb 44) t)

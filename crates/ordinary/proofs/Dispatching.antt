@@ -21,7 +21,7 @@ use Rattle.ordinary.specs.Shown.{Shown, shown, Told}
 use Rattle.ordinary.specs.Forms.{shorthand, unprefixed, bare, first-of}
 use Rattle.ordinary.specs.declared.types.Applied.{Applied}
 use Rattle.ordinary.proofs.Bracketing.{bracketed-within, bracketed-none}
-use Rattle.ordinary.proofs.Clauses.{turned}
+use Rattle.lexis.proofs.Seeking.{turned}
 
 -- ── a name ──
 

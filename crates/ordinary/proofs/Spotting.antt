@@ -13,7 +13,7 @@ use lib.ListN.{length, take, drop, getD, length-drop}
 use lib.Seq.{getD-drop}
 use Rattle.lexis.specs.Text.{if_then_else_, begins, cut, place, until}
 use Rattle.lexis.proofs.Lists.{rest}
-use Rattle.lexis.proofs.Seeking.{shifted, hit, miss, gone, begins-within}
+use Rattle.lexis.proofs.Seeking.{right, shifted, hit, miss, gone, begins-within}
 use Rattle.ordinary.proofs.Removal.{sought}
 
 -- ── bytes before the first x, and there ──
@@ -56,10 +56,6 @@ module _ (x : ℕ) (s : List ℕ) (i : ℕ) {e : ℕ} (k : e ≡ i + length (unt
 left : (x y : Bool) → x && y ≡ true → x ≡ true
 left true y e = refl
 left false y e = e
-
-right : (x y : Bool) → x && y ≡ true → y ≡ true
-right true y e = e
-right false y e = absurd (false≢true e)
 
 byte : (m t : List ℕ) (j : ℕ) → begins m t ≡ true → j < length m → getD t j 0 ≡ getD m j 0
 byte [] t j e h = let f : ⊥ = omega arith in absurd f

@@ -9,13 +9,13 @@ use native.Mathlib.Omega.{arith}
 use lib.Dec.{eqb}
 use lib.ListN.{length, take, drop, getD, length-drop, drop-of-length-le}
 use lib.Seq.{drop-drop}
-use borrow.Author.Tests.{eqb-true, eqb-false, eq-eqb, ne-eqb}
+use borrow.Author.Tests.{eqb-true, eqb-false, ne-eqb}
 use Rattle.lexis.specs.Text.{Text, bytes, if_then_else_, same, begins, trim}
 use Rattle.scalars.specs.Names.{Name, names, named-in, scalar-name}
 use Rattle.scalars.specs.Rows.{rows-of, rows, which}
 use Rattle.scalars.specs.declared.scalar.Scalar.{Scalar}
 use Rattle.lexis.proofs.Lists.{view}
-use Rattle.lexis.proofs.Seeking.{unlike}
+use Rattle.lexis.proofs.Seeking.{turned, unlike}
 
 -- ── the entries of a table, side by side ──
 
@@ -35,15 +35,11 @@ first-row n b s p =
     (λ (es : List Text). take n (b ∷ s) ∷ es)
     (enough n (length s) (length (drop n (b ∷ s))) (drop n (b ∷ s)) p (rw length-drop (omega arith)) (le-refl (length (drop n (b ∷ s)))))
 
-turned : (x y : ℕ) (d : Bool) → eqb x y ≡ d → eqb y x ≡ d
-turned x y true e = eq-eqb y x (sym (eqb-true x y e))
-turned x y false e = ne-eqb y x (λ k. eqb-false x y e (sym k))
-
 -- a text that begins with s begins with a row that is s
 row : (s t : Text) → begins s t ≡ same (take (length s) t) s
 row [] t = refl
 row (c ∷ s) [] = refl
-row (c ∷ s) (b ∷ t) = λ i. turned b c (eqb b c) refl i && row s t i
+row (c ∷ s) (b ∷ t) = λ i. turned c b i && row s t i
 
 module _ (s t : Text) (n at : ℕ) (p : 0 < length s) where
   next : at < length t → rows (length s) (drop at t) ≡ take (length s) (drop at t) ∷ rows (length s) (drop (at + length s) t)
