@@ -6,15 +6,38 @@ use mathlib.Core.List.{[], _∷_}
 use mathlib.Core.Option.{none, some}
 use Prim.Native.Nat.{ℕ, _+_, _-_, _*_, _^_, _≤_, _<_}
 use native.Mathlib.Omega.{arith}
-use borrow.Author.Tests.{eqb-true, leb-true, ne-eqb, eq-eqb, le-leb, lt-leb}
-use lib.Dec.{eqb, leb}
+use borrow.Author.Tests.{eqb-true, eqb-false, ltb-true, leb-true, ne-eqb, eq-eqb, le-leb, lt-leb}
+use lib.Dec.{eqb, leb, ltb}
 use lib.IntN.{pos}
 use lib.ListN.{length, take, drop, getD, drop-of-length-le}
 use Rattle.lexis.specs.Text.{Text, if_then_else_, until, less-trailing, unless-last, white, trim}
 use Rattle.numerals.specs.Numeral.{digit, number-from, number, minus, numeral}
-use Rattle.numerals.specs.Parts.{ink, apart}
+use Rattle.numerals.specs.Parts.{ink, apart, odd}
 use Rattle.lexis.proofs.Lists.{view}
-use Rattle.lexis.proofs.Seeking.{until-step, until-stop, until-take}
+use Rattle.lexis.proofs.Seeking.{never, until-step, until-stop, until-take}
+
+-- ── a byte that isn't white stays where a text is trimmed ──
+
+kept : (b : ℕ) (u : Text) → white b ≡ false → unless-last white b u ≡ b ∷ u
+kept b [] e = rw e
+kept b (c ∷ u) e = refl
+
+black : (b : ℕ) → 32 < b → white b ≡ false
+black b h = rw (le-leb 9 b (omega arith), lt-leb b 13 (omega arith), ne-eqb b 32 (λ e. omega arith))
+
+-- a byte that is neither white nor a digit
+odd-byte : (b : ℕ) → odd b ≡ true → (white b ≡ false) × (digit b ≡ false)
+odd-byte b e = by (white b) (ltb b 48) (ltb 57 b) (ltb-true b 48) (ltb-true 57 b) e
+  where
+    by : (c d g : Bool) → (d ≡ true → b < 48) → (g ≡ true → 57 < b) → not c && (d || g) ≡ true → (c ≡ false) × (digit b ≡ false)
+    by true d g p q e = absurd (false≢true e)
+    by false true g p q e = (refl, rw (lt-leb 48 b (p refl)))
+    by false false true p q e = (refl, ap (λ (z : Bool). leb 48 b && z) (lt-leb b 57 (q refl)) ∙ never (leb 48 b))
+    by false false false p q e = absurd (false≢true e)
+
+no-number : (u : Text) → number-from 0 u ≡ none → number u ≡ none
+no-number [] e = refl
+no-number (b ∷ u) e = e
 
 -- ── digits: those from the place k on up to i wrote n ──
 
@@ -23,9 +46,11 @@ module _ (x : ℕ) where
     pub onward : k ≤ i
     pub len : k + length (until (eqb x) (drop k s)) ≡ i + length (until (eqb x) (drop i s))
     pub same : number-from 0 (until (eqb x) (drop k s)) ≡ number-from n (until (eqb x) (drop i s))
+    pub trimmed : number-from 0 (less-trailing white (until (eqb x) (drop k s))) ≡ number-from n (less-trailing white (until (eqb x) (drop i s)))
+    pub lead : (i ≡ k → ⊥) → 48 ≤ getD s k 0
 
   pub begun : (s : Text) (k : ℕ) → Running s k k 0
-  begun s k = record { onward = omega arith; len = refl; same = refl }
+  begun s k = record { onward = omega arith; len = refl; same = refl; trimmed = refl; lead = λ n. absurd (n refl) }
 
 -- ── the separator ──
 
@@ -80,6 +105,13 @@ module _ (x : ℕ) (f : apart x ≡ true) where
   -- ── one digit more, and the end ──
 
   module _ {s : Text} {k i n : ℕ} (g : Running x s k i n) where
+    led : {b : ℕ} → b ≡ getD s i 0 → 48 ≤ b → 48 ≤ getD s k 0
+    led {b} m l = by (eqb i k) refl
+      where
+        by : (c : Bool) → eqb i k ≡ c → 48 ≤ getD s k 0
+        by true e = subst (λ (j : ℕ). 48 ≤ getD s j 0) (eqb-true i k e) (omega arith)
+        by false e = g .lead (eqb-false i k e)
+
     pub step : {b : ℕ} → b ≡ getD s i 0 → i < length s → 48 ≤ b → b ≤ 57 → Running x s k (i + 1) (n * 10 + (b - 48))
     step {b} m h l u =
         let o : (b ≡ 44 → ⊥) = λ e. omega arith in
@@ -88,6 +120,11 @@ module _ (x : ℕ) (f : apart x ≡ true) where
           onward = omega (arith, g .onward);
           len = g .len ∙ ap (λ (v : Text). i + length v) e ∙ omega arith;
           same = g .same ∙ ap (number-from n) e ∙ rw (le-leb 48 b l, le-leb b 57 u);
+          trimmed =
+              g .trimmed ∙ ap (λ (v : Text). number-from n (less-trailing white v)) e
+              ∙ ap (number-from n) (kept b (less-trailing white (until (eqb x) (drop (i + 1) s))) (black b (omega arith)))
+              ∙ rw (le-leb 48 b l, le-leb b 57 u);
+          lead = λ z. led m l;
         }
 
     ended : until (eqb x) (drop i s) ≡ [] → (i ≡ k → ⊥)
@@ -106,19 +143,26 @@ module _ (x : ℕ) (f : apart x ≡ true) where
     pub at-next : i < length s → getD s i 0 ≡ x → (i ≡ k → ⊥) → (i ≡ k + length (until (eqb x) (drop k s))) × (number (until (eqb x) (drop k s)) ≡ some n)
     at-next h e = ended (rw (view s i h, eq-eqb x (getD s i 0) (sym e)))
 
+    -- an odd byte next: the part is no number, trimmed
+    pub at-odd : i < length s → (getD s i 0 ≡ x → ⊥) → odd (getD s i 0) ≡ true → (i ≡ k → ⊥) → {e : ℕ} → e ≡ i + length (until (eqb x) (drop i s))
+        → (e ≡ k + length (until (eqb x) (drop k s))) × (number (less-trailing white (until (eqb x) (drop k s))) ≡ none) × (48 ≤ getD (drop k s) 0 0)
+    at-odd h d o m p =
+        let b = getD s i 0 in
+        let e : until (eqb x) (drop i s) ≡ b ∷ until (eqb x) (drop (i + 1) s) = rw (view s i h, ne-eqb x b (λ z. d (sym z))) in
+        let c = odd-byte b o in (
+          p ∙ sym (g .len),
+          no-number (less-trailing white (until (eqb x) (drop k s)))
+              (g .trimmed ∙ ap (λ (v : Text). number-from n (less-trailing white v)) e
+              ∙ ap (number-from n) (kept b (less-trailing white (until (eqb x) (drop (i + 1) s))) (c .0)) ∙ rw (c .1)),
+          rw (view s k (omega (arith, g .onward))) (g .lead m),
+        )
+
   pub zero-more : {s : Text} {k i : ℕ} → Running x s k i 0 → i < length s → getD s i 0 ≡ 48 → Running x s k (i + 1) 0
   zero-more {s} {k} {i} g h e =
       let z : 0 * 10 + (getD s i 0 - 48) ≡ 0 = omega arith in
       subst (λ (m : ℕ). Running x s k (i + 1) m) z (step g refl h (omega arith) (omega arith))
 
 -- ── what the trimmed part is ──
-
-kept : (b : ℕ) (u : Text) → white b ≡ false → unless-last white b u ≡ b ∷ u
-kept b [] e = rw e
-kept b (c ∷ u) e = refl
-
-black : (b : ℕ) → 32 < b → white b ≡ false
-black b h = rw (le-leb 9 b (omega arith), lt-leb b 13 (omega arith), ne-eqb b 32 (λ e. omega arith))
 
 record Digit (b : ℕ) : Type 0 where
   low : 48 ≤ b
@@ -176,6 +220,18 @@ module _ (w : ℕ) where
   signed [] e h = absurd (absent e)
   signed (b ∷ u) {n} e h = rw (tight 0 (b ∷ u) e, e, le-leb n (2 ^ (w - 1)) h)
 
+  odd-plain : (x b : ℕ) (t : Text) → 48 ≤ b → number (less-trailing white (until (eqb x) (b ∷ t))) ≡ none → numeral w (trim (until (eqb x) (b ∷ t))) ≡ none
+  odd-plain x b t h = by (eqb x b)
+    where
+      by : (d : Bool) → number (less-trailing white (if d then [] else b ∷ until (eqb x) t)) ≡ none → numeral w (trim (if d then [] else b ∷ until (eqb x) t)) ≡ none
+      by true e = refl
+      by false e =
+          let k = kept b (less-trailing white (until (eqb x) t)) (black b (omega arith)) in
+          rw (black b (omega arith), k, ne-eqb b 45 (λ m. omega arith), ne-eqb b 43 (λ m. omega arith), sym (ap number k) ∙ e)
+
+  odd-signed : (u : Text) → number (less-trailing white u) ≡ none → numeral w (trim (45 ∷ u)) ≡ none
+  odd-signed u e = rw (kept 45 (less-trailing white u) refl, e)
+
   strange : (x b : ℕ) (t : Text) → 57 < b → numeral w (trim (until (eqb x) (b ∷ t))) ≡ none
   strange x b t h = by (eqb x b)
     where
@@ -200,6 +256,18 @@ module _ (w : ℕ) where
     minus-part h k q r =
         sym (ap (numeral w) (whole-trim x f s a) ∙ ap (λ (t : Text). numeral w (trim t)) (behind-sign x f s a h k)
         ∙ signed (until (eqb x) (drop (i + 1) s)) q r)
+
+    pub plus-odd : i < length s → number (less-trailing white (until (eqb x) (drop i s))) ≡ none → 48 ≤ getD (drop i s) 0 0
+        → none ≡ numeral w (trim (until (eqb x) s))
+    plus-odd h q r =
+        sym (ap (numeral w) (whole-trim x f s a) ∙ ap (λ (t : Text). numeral w (trim (until (eqb x) t))) (view s i h)
+        ∙ odd-plain x (getD s i 0) (drop (i + 1) s) (rw (view s i h) at r) (rw (view s i h) at q))
+
+    pub minus-odd : i < length s → getD s i 0 ≡ 45 → number (less-trailing white (until (eqb x) (drop (i + 1) s))) ≡ none
+        → none ≡ numeral w (trim (until (eqb x) s))
+    minus-odd h k q =
+        sym (ap (numeral w) (whole-trim x f s a) ∙ ap (λ (t : Text). numeral w (trim t)) (behind-sign x f s a h k)
+        ∙ odd-signed (until (eqb x) (drop (i + 1) s)) q)
 
 -- ── a part that is sought first: its k bytes ──
 

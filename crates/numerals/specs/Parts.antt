@@ -1,13 +1,13 @@
 -- What private helpers answer, for their own contracts: no public contract cites these.
 use Prim.Native.Nat.{ℕ, suc, _+_, _≤_}
 use Prim.Native.Char.{code}
-use mathlib.Core.Bool.{Bool, _||_, not}
+use mathlib.Core.Bool.{Bool, _&&_, _||_, not}
 use mathlib.Core.List.{[], _∷_}
 use mathlib.Core.Option.{Option, none, some}
 use mathlib.Core.Path.{_≡_}
-use lib.Dec.{leb, eqb}
-use lib.ListN.{length}
-use Rattle.lexis.specs.Text.{Text, if_then_else_, until, white}
+use lib.Dec.{leb, ltb, eqb}
+use lib.ListN.{length, getD}
+use Rattle.lexis.specs.Text.{Text, if_then_else_, until, less-trailing, white}
 use Rattle.numerals.specs.Numeral.{number}
 use Rattle.numerals.specs.declared.numeral.Magnitude.{Magnitude}
 use Rattle.numerals.specs.declared.numeral.Magnitude.the-variants.{Of, NoDigits}
@@ -47,7 +47,13 @@ ink b = not (white b)
 abbrev pub apart : ℕ → Bool
 apart x = eqb x (code ",") || leb (suc (code "9")) x
 
--- t up to the first x is digits that write n, at most `most`, and e is its end, where t begins at the place k
+-- neither white nor a digit
+abbrev pub odd : ℕ → Bool
+odd b = not (white b) && (ltb b (code "0") || ltb (code "9") b)
+
+-- t up to the first x is digits that write n, at most `most`, or begins with one and is no number, trimmed; e is its end, where t
+-- begins at the place k
 abbrev pub Ran : ℕ → Text → ℕ → ℕ → Walked → Type 0
 Ran x t k most (W.Of n e) = (e ≡ k + length (until (eqb x) t)) × (number (until (eqb x) t) ≡ some n) × (n ≤ most)
+Ran x t k most (W.Odd e) = (e ≡ k + length (until (eqb x) t)) × (number (less-trailing white (until (eqb x) t)) ≡ none) × (48 ≤ getD t 0 0)
 Ran x t k most W.Other = Unit {0}

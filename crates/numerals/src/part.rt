@@ -7,6 +7,7 @@ use super::numeral::parse_i32;
 use super::numeral::parse_i64;
 use super::numeral::plus32;
 use super::numeral::plus64;
+use lexis::seek;
 use lexis::trim;
 use lexis::until;
 use lexis::white;
@@ -18,7 +19,7 @@ ghost use lib.ListN.{drop, length, take};
 ghost use Rattle.lexis.specs.Text.{until, trim};
 ghost use Rattle.numerals.specs.Numeral.{numeral, said64, said32};
 ghost use Rattle.lexis.specs.Parts.{some-of};
-ghost use Rattle.numerals.specs.Parts.{ink, apart, Ran};
+ghost use Rattle.numerals.specs.Parts.{ink, apart, odd, Ran};
 
 // What a trimmed part is as a numeral of 64 bits, and how long the part is.
 pub struct Part64 {
@@ -32,9 +33,11 @@ pub struct Part32 {
     pub len: usize,
 }
 
-// Digits up to the end of a part: what they write, and where the part ends.
+// A part that begins with digits, and where it ends: they are all of it and write a number, or a byte after them makes it
+// unreadable.
 enum Walked {
     Of(u64, usize),
+    Odd(usize),
     Other,
 }
 
@@ -98,6 +101,13 @@ fn apart(x: u8) -> bool
     (x == 44) | (58 <= x)
 }
 
+// Whether a byte behind digits makes a part unreadable: it is neither white nor a digit.
+fn odd(b: u8) -> bool
+    ensures { λ r. ⌜ r ≡ odd b ⌝ }
+{
+    !white(b) & ((b < 48) | (57 < b))
+}
+
 // The byte as a number of 64 bits.
 fn wide(b: u8) -> u64
     ensures { λ r. ⌜ r ≡ b ⌝ }
@@ -105,7 +115,8 @@ fn wide(b: u8) -> u64
     b as u64
 }
 
-// The digits from `from` on, if nothing else stands there up to the first `x`, and they write at most `most`.
+// The part from `from` on, if digits begin it: up to the first `x` nothing else stands there and they write at most `most`, or
+// a byte stands there that is neither digit nor white.
 fn run(text: &[u8], x: u8, from: usize, most: u64) -> Walked
     requires { ⌜ apart x ≡ true ⌝ }
     ensures { λ r. ⌜ Ran x (drop from (now (text .entry))) from most r ⌝ }
@@ -139,7 +150,11 @@ fn run(text: &[u8], x: u8, from: usize, most: u64) -> Walked
         return Walked::Other;
     }
     if i < text.len() {
-        if text[i] != x {
+        let b = text[i];
+        if b != x {
+            if odd(b) {
+                return Walked::Odd(seek(text, i, x));
+            }
             return Walked::Other;
         }
     }
@@ -179,12 +194,20 @@ pub fn part_i64(text: &[u8], x: u8) -> Part64
                 value: Number64::Value(minus64(n)),
                 len,
             },
+            Walked::Odd(len) => Part64 {
+                value: Number64::Unreadable,
+                len,
+            },
             Walked::Other => slow64(text, x),
         };
     }
     match run(text, x, i, 9223372036854775807) {
         Walked::Of(n, len) => Part64 {
             value: Number64::Value(plus64(n)),
+            len,
+        },
+        Walked::Odd(len) => Part64 {
+            value: Number64::Unreadable,
             len,
         },
         Walked::Other => slow64(text, x),
@@ -224,12 +247,20 @@ pub fn part_i32(text: &[u8], x: u8) -> Part32
                 value: Number32::Value(minus32(n)),
                 len,
             },
+            Walked::Odd(len) => Part32 {
+                value: Number32::Unreadable,
+                len,
+            },
             Walked::Other => slow32(text, x),
         };
     }
     match run(text, x, i, 2147483647) {
         Walked::Of(n, len) => Part32 {
             value: Number32::Value(plus32(n)),
+            len,
+        },
+        Walked::Odd(len) => Part32 {
+            value: Number32::Unreadable,
             len,
         },
         Walked::Other => slow32(text, x),

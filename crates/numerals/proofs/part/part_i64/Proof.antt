@@ -34,6 +34,7 @@ part-i64-spec =
     (λ c κs. let r = c .before .before .before in let l = r .before .before .before .before .before in let a = l .before .before .before .before .args in
     omega (arith, subst (Ran (a .x) (drop (l .leading .result + 1) (a .text .now)) (l .leading .result + 1) 9223372036854775807) (c .before .n .given .1) (r .run .ensures) .2))
     (λ c. search needs)
+    (λ c. search needs)
     (λ c κs. search needs)
     (λ c. let r = c .before .before .before .before in let l = r .before .before .before .before .before in let a = l .before .before .before .before .args in
     let f = sym (l .before .before .apart .ensures) ∙ not-false _ (l .before .if1 .left) in
@@ -42,11 +43,18 @@ part-i64-spec =
       ap some (toZ-ofZ w64 _ (record { sfits = c .minus64 .ok }) ∙ c .minus64 .ensures)
           ∙ L.minus-part 64 (a .x) f (a .text .now) (l .leading .ensures) (search needs) (search needs) (w .1) (omega (arith, w .2)),
     ))
+    (λ c. let r = c .before .before .before in let l = r .before .before .before .before .before in let a = l .before .before .before .before .args in
+    let f = sym (l .before .before .apart .ensures) ∙ not-false _ (l .before .if1 .left) in
+    let w = subst (Ran (a .x) (drop (l .leading .result + 1) (a .text .now)) (l .leading .result + 1) 9223372036854775807) (c .before .len .given .1) (r .run .ensures) in (
+      L.minus-len (a .x) f (a .text .now) (l .leading .ensures) (search needs) (search needs) (w .0),
+      L.minus-odd 64 (a .x) f (a .text .now) (l .leading .ensures) (search needs) (search needs) (w .1),
+    ))
     (λ c. search needs)
     (λ c κs. let l = c .before .before .before .before in sym (l .before .before .apart .ensures) ∙ not-false _ (l .before .if1 .left))
     (λ c. search needs)
     (λ c κs. let r = c .before .before .before in let l = r .before .before .before .before .before in let a = l .before .before .before .before .args in
     omega (arith, subst (Ran (a .x) (drop (l .leading .result) (a .text .now)) (l .leading .result) 9223372036854775807) (c .before .n2 .given .1) (r .run2 .ensures) .2))
+    (λ c. search needs)
     (λ c. search needs)
     (λ c κs. search needs)
     (λ c. let r = c .before .before .before .before in let l = r .before .before .before .before .before in let a = l .before .before .before .before .args in
@@ -55,5 +63,11 @@ part-i64-spec =
       L.plus-len (a .x) f (a .text .now) (l .leading .ensures) (w .0),
       ap some (toZ-ofZ w64 _ (record { sfits = c .plus64 .ok }) ∙ c .plus64 .ensures)
           ∙ L.plus-part 64 (a .x) f (a .text .now) (l .leading .ensures) (w .1) (omega (arith, w .2)),
+    ))
+    (λ c. let r = c .before .before .before in let l = r .before .before .before .before .before in let a = l .before .before .before .before .args in
+    let f = sym (l .before .before .apart .ensures) ∙ not-false _ (l .before .if1 .left) in
+    let w = subst (Ran (a .x) (drop (l .leading .result) (a .text .now)) (l .leading .result) 9223372036854775807) (c .before .len2 .given .1) (r .run2 .ensures) in (
+      L.plus-len (a .x) f (a .text .now) (l .leading .ensures) (w .0),
+      L.plus-odd 64 (a .x) f (a .text .now) (l .leading .ensures) (search needs) (w .1) (w .2),
     ))
     (λ c. search needs))

@@ -2,7 +2,7 @@
 use Rattle.numerals.proofs.Walking as L
 use lib.ListN.{length}
 use Prim.Native.Nat.{_-_, _^_, _<_}
-use mathlib.Core.Path.{_≡_, sym}
+use mathlib.Core.Path.{_≡_, sym, _∙_}
 use borrow.Author.Needs.{needs}
 use Rattle.numerals.proofs.part.run.Statement.{statement}
 use Rattle.numerals.proofs.part.run.Tie as tie
@@ -41,6 +41,11 @@ run-spec =
     (λ c. tt)
     (λ c. tt)
     (λ c. search needs)
+    (λ c κs. search needs)
+    (λ c κs. search needs)
+    (λ c. let o = c .before .before in let l = o .before .before .before .before .before .before .before in
+    L.at-odd _ (l .before .before .before .before .pre) (l .loop2 .inv .0) (search needs) (search needs) (sym (o .odd .ensures) ∙ c .before .if9 .taken)
+    (o .before .before .before .before .before .if5 .left) (c .seek .ensures))
     (λ c. tt)
     (λ c. let l = c .before .before .before .before .before .before in
     let w = L.at-next _ (l .before .before .before .before .pre) (l .loop2 .inv .0) (search needs) (search needs) (c .before .before .before .before .if5 .left) in
