@@ -8,7 +8,7 @@ use native.Mathlib.Nat.{add-zero}
 use native.Mathlib.Numerals.{add-one}
 use native.Mathlib.Omega.{arith}
 use lib.Dec.{eqb}
-use lib.ListN.{length, take, drop, getD, length-drop}
+use lib.ListN.{length, take, drop, getD, length-drop, drop-of-length-le}
 use lib.Seq.{drop-drop, getD-drop}
 use Rattle.lexis.specs.Text.{if_then_else_, begins, after, Cut, nowhere, at, later, cut, place, until}
 use Rattle.lexis.specs.Parts.{some-of}
@@ -52,6 +52,31 @@ module _ (p : ℕ → Bool) where
       let a = skip k (drop i s) (let l = length-drop i s in omega arith) e in
       let b = ap (λ (t : List ℕ). length (until p t)) (drop-drop k i s) in
       omega arith
+
+  fewer : (j k : ℕ) (l : List ℕ) → j ≤ k → some-of p (take k l) ≡ false → some-of p (take j l) ≡ false
+  fewer zero k l h e = refl
+  fewer (suc j) zero l h e = let f : ⊥ = omega arith in absurd f
+  fewer (suc j) (suc k) [] h e = refl
+  fewer (suc j) (suc k) (x ∷ l) h e = by (p x) e (fewer j k l (omega arith))
+    where
+      by : (b : Bool) → b || some-of p (take k l) ≡ false → (some-of p (take k l) ≡ false → some-of p (take j l) ≡ false) → b || some-of p (take j l) ≡ false
+      by true f r = f
+      by false f r = r f
+
+  -- no hit in the last k bytes: what is left of them has none
+  pub none-left : (s : List ℕ) (i k : ℕ) → i ≤ length s → length s - i ≤ k → k ≤ length s → some-of p (take k (drop (length s - k) s)) ≡ false →
+      i + length (until p (drop i s)) ≡ length s
+  none-left s i k h g m e =
+      let n = length s in
+      let o = n - k in
+      let x : o + (i - o) ≡ i = omega arith in
+      let y : o + k ≡ n = omega arith in
+      sym (ap (λ (z : ℕ). z + length (until p (drop z s))) x)
+      ∙ sym (passed s o (i - o) (omega arith) (fewer (i - o) k (drop o s) (omega arith) e))
+      ∙ passed s o k (omega arith) e
+      ∙ ap (λ (z : ℕ). z + length (until p (drop z s))) y
+      ∙ ap (λ (t : List ℕ). n + length (until p t)) (drop-of-length-le s {i = n} (omega arith))
+      ∙ add-zero n
 
 -- ── a byte of a text is sought before the text ──
 

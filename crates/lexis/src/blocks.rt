@@ -41,6 +41,11 @@ pub fn seek(text: &[u8], from: usize, b: u8) -> usize
     let mut i = from;
     while i < text.len() {
         if text.len() - i < 16 {
+            if 16 <= text.len() {
+                if !among(text, text.len() - 16, b) { // nor in what is left
+                    return text.len();
+                }
+            }
             break;
         }
         if among(text, i, b) {
@@ -62,7 +67,15 @@ pub fn seek_high(text: &[u8]) -> usize
     ensures { λ r. ⌜ r ≡ length (until (leb 128) (now (text .entry))) ⌝ }
 {
     let mut i = 0;
-    while 16 <= text.len() - i {
+    while i < text.len() {
+        if text.len() - i < 16 {
+            if 16 <= text.len() {
+                if !among_high(text, text.len() - 16) {
+                    return text.len();
+                }
+            }
+            break;
+        }
         if among_high(text, i) {
             break;
         }

@@ -85,11 +85,11 @@ pub fn find_by(text: &[u8], what: &[u8], k: usize) -> Found
     }
 }
 
-// Whether `what` occurs in `text`.
-pub fn contains(text: &[u8], what: &[u8]) -> bool
+// Whether `what` occurs in `text`; it is sought by its byte `k`.
+pub fn contains(text: &[u8], what: &[u8], k: usize) -> bool
     ensures { λ r. ⌜ r ≡ occurs (now (what .entry)) (now (text .entry)) ⌝ }
 {
-    match find(text, what) {
+    match find_by(text, what, k) {
         Found::At(_) => true,
         Found::Nowhere => false,
     }

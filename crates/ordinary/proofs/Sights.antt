@@ -9,7 +9,7 @@ use lib.IntN.{pos}
 use lib.ListN.{length, take, drop, replicate, length-map}
 use Rattle.lexis.specs.Text.{Text, bytes, if_then_else_, split, Cut, nowhere, at, cut, place}
 use Rattle.lexis.proofs.Lists.{rest}
-use Rattle.lexis.proofs.Seeking.{cut-at, cut-nowhere}
+use Rattle.lexis.proofs.Seeking.{longer-nowhere, cut-at, cut-nowhere}
 use Rattle.meaning.specs.Found.{Entry, Clause, stands, filled, unused, value}
 use Rattle.meaning.specs.Parts.{each, up-to, between, close}
 use Rattle.meaning.specs.Tile as T
@@ -89,15 +89,17 @@ module _ {r : Tensor} (s b : Text) where
   unfolding W.opened
   opened-named i e h = opened-at s named (cut marked s or cut bare b or none) i e h
 
-  module _ (e : place (cut named s) ≡ none) where
-    pub opened-marked : (i : ℕ) → place (cut marked s) ≡ some i
-        → Tensor-is r (T.tensor (W.enclosed (close 0 (take (length s - (i + 23)) (drop (i + 23) s))))) → Tensor-is r (W.inner-by (W.opened s b))
-    unfolding W.opened
-    opened-marked i f h = opened-else s named (cut marked s or cut bare b or none) e (opened-at s marked (cut bare b or none) i f h)
+  pub opened-marked : place (cut named s) ≡ none → (i : ℕ) → place (cut marked s) ≡ some i
+      → Tensor-is r (T.tensor (W.enclosed (close 0 (take (length s - (i + 23)) (drop (i + 23) s))))) → Tensor-is r (W.inner-by (W.opened s b))
+  unfolding W.opened
+  opened-marked e i f h = opened-else s named (cut marked s or cut bare b or none) e (opened-at s marked (cut bare b or none) i f h)
 
-    pub opened-behind : (t : Text) → t ≡ b → place (cut marked s) ≡ none → Tensor-is r (W.inner-by (cut bare t or none)) → Tensor-is r (W.inner-by (W.opened s b))
-    unfolding W.opened
-    opened-behind t q f h = opened-else s named (cut marked s or cut bare b or none) e (opened-else s marked (cut bare b or none) f (rw q at h))
+  -- `named` ends with `marked`
+  pub opened-behind : (t : Text) → t ≡ b → place (cut marked s) ≡ none → Tensor-is r (W.inner-by (cut bare t or none)) → Tensor-is r (W.inner-by (W.opened s b))
+  unfolding W.opened
+  opened-behind t q f h =
+      let e = ap place (longer-nowhere (bytes "tensor_view=") marked s (cut-nowhere marked s f)) in
+      opened-else s named (cut marked s or cut bare b or none) e (opened-else s marked (cut bare b or none) f (rw q at h))
 
 -- ── the view ──
 

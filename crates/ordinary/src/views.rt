@@ -84,7 +84,7 @@ fn tile_entries(s: &[u8]) -> List32
     requires { ⌜ length (now s) ≤ 1024 ⌝ }
     ensures { λ r. ⌜ Reads (list32 r) (stands (tile-entries (now (s .entry)))) ⌝ }
 {
-    if lexis::contains(s, b"x") {
+    if lexis::contains(s, b"x", 0) {
         lists::parse_smalls(s, 120, 1)
     } else {
         lists::parse_smalls(s, 44, 1)
@@ -95,38 +95,39 @@ fn tile_entries(s: &[u8]) -> List32
 pub(crate) fn parse_padding_value(inner: &[u8]) -> Padding
     ensures { λ r. ⌜ r ≡ padding (now (inner .entry)) ⌝ }
 {
-    if !lexis::contains(inner, b"padding_value") {
+    if !lexis::contains(inner, b"padding_value", 6) {
         return Padding::Absent;
     }
-    if lexis::contains(inner, b"neg_zero") {
+    if lexis::contains(inner, b"neg_zero", 4) {
         return Padding::NegZero;
     }
-    if lexis::contains(inner, b"zero") {
+    if lexis::contains(inner, b"zero", 0) {
         return Padding::Zero;
     }
-    if lexis::contains(inner, b"nan") {
+    if lexis::contains(inner, b"nan", 0) {
         return Padding::Nan;
     }
-    if lexis::contains(inner, b"pos_inf") {
+    if lexis::contains(inner, b"pos_inf", 6) {
         return Padding::PosInf;
     }
-    if lexis::contains(inner, b"neg_inf") {
+    if lexis::contains(inner, b"neg_inf", 6) {
         return Padding::NegInf;
     }
     Padding::Absent
 }
 
-// The inner tensor view: after a prefix anywhere, or after `tensor_view<` past the tile's `)`.
+// The inner tensor view: after a prefix anywhere, or after `tensor_view<` past the tile's `)`. Without the shorter prefix the
+// longer one, which ends with it, is nowhere.
 pub(crate) fn parse_nested_tensor_view(inner: &[u8], behind: usize) -> Tensor
     requires { ⌜ (length (now inner) ≤ 1024) × (behind ≤ length (now inner)) ⌝ }
     ensures { λ r. ⌜ Tensor-is r (inner-by (opened (now (inner .entry)) (drop behind (now (inner .entry))))) ⌝ }
 {
-    match lexis::find_by(inner, b"tensor_view=!cuda_tile.tensor_view<", 12) {
-        Found::At(i) => parse_enclosed(&inner[i + 35..]),
-        Found::Nowhere => match lexis::find(inner, b"!cuda_tile.tensor_view<") {
-            Found::At(i) => parse_enclosed(&inner[i + 23..]),
-            Found::Nowhere => parse_behind(&inner[behind..]),
+    match lexis::find(inner, b"!cuda_tile.tensor_view<") {
+        Found::At(i) => match lexis::find_by(inner, b"tensor_view=!cuda_tile.tensor_view<", 12) {
+            Found::At(j) => parse_enclosed(&inner[j + 35..]),
+            Found::Nowhere => parse_enclosed(&inner[i + 23..]),
         },
+        Found::Nowhere => parse_behind(&inner[behind..]),
     }
 }
 

@@ -1,8 +1,9 @@
--- `seek` meets its contract: i bytes are passed, first by blocks without a hit, then one by one.
+-- `seek` meets its contract: i bytes are passed, first by blocks without a hit, then one by one,
+-- if the last sixteen bytes have a hit.
 use Rattle.lexis.proofs.Passing as L
 use Rattle.lexis.proofs.Seeking as S
 use Rattle.lexis.specs.Text as T
-use borrow.Author.Tests.{eq-eqb, ne-eqb}
+use borrow.Author.Tests.{eq-eqb, ne-eqb, not-true}
 use lib.Dec.{eqb}
 use lib.ListN.{length, drop}
 use Prim.Native.Nat.{_+_, _-_}
@@ -21,28 +22,35 @@ again : tie.Need-loop-again Inv μ Inv μ
 again c =
     let l = c .before .before .before .before .loop in
     let a = c .before .before .before .before .before .before .args in
-    l .inv ∙ L.passed (eqb (a .b)) (a .text .now) (l .i) 16 (search needs) (sym (c .before .among .ensures) ∙ c .if2 .left)
+    l .inv ∙ L.passed (eqb (a .b)) (a .text .now) (l .i) 16 (search needs) (sym (c .before .among2 .ensures) ∙ c .if4 .left)
 
 again2 : tie.Need-loop2-again Inv μ Inv μ
 again2 c =
     let l = c .before .before .before .loop2 in
     let a = c .before .before .before .before .before .before .before .args in
-    l .inv ∙ S.until-step (eqb (a .b)) (a .text .now) (l .i) (search needs) (ne-eqb _ _ (c .if3 .left))
+    l .inv ∙ S.until-step (eqb (a .b)) (a .text .now) (l .i) (search needs) (ne-eqb _ _ (c .if5 .left))
 
-ended : tie.Need-returns Inv μ Inv μ
+absent : tie.Need-returns Inv μ Inv μ
+absent c =
+    let l = c .before .before .before .before .before .loop in
+    let a = c .before .before .before .before .before .before .before .args in
+    sym (l .inv ∙ L.none-left (eqb (a .b)) (a .text .now) (l .i) 16 (search needs) (search needs) (search needs)
+    (sym (c .before .among .ensures) ∙ not-true _ (c .if3 .taken)))
+
+ended : tie.Need-returns-2 Inv μ Inv μ
 ended c =
     let l = c .before .loop2 in
     let a = c .before .before .before .before .before .args in
     sym (l .inv ∙ S.until-end (eqb (a .b)) (a .text .now) (l .i) (search needs))
 
-found : tie.Need-returns-2 Inv μ Inv μ
+found : tie.Need-returns-3 Inv μ Inv μ
 found c =
     let l = c .before .before .before .loop2 in
     let a = c .before .before .before .before .before .before .before .args in
-    sym (l .inv ∙ S.until-stop (eqb (a .b)) (a .text .now) (l .i) (search needs) (eq-eqb _ _ (c .if3 .taken)))
+    sym (l .inv ∙ S.until-stop (eqb (a .b)) (a .text .now) (l .i) (search needs) (eq-eqb _ _ (c .if5 .taken)))
 
 pub seek-spec : {M : Type 1} → statement M
 seek-spec =
     tie.close
-    (tie.spec Inv μ Inv μ (λ c. search needs) (λ c. search needs) (λ c κs. search needs) (λ c. search needs) (λ c. search needs) again
-    (λ c. search needs) (λ c. search needs) (λ c. search needs) (λ c. search needs) again2 ended found)
+    (tie.spec Inv μ Inv μ (λ c. search needs) (λ c. search needs) (λ c. search needs) (λ c κs. search needs) absent (λ c κs. search needs) (λ c. search needs)
+    (λ c. search needs) again (λ c. search needs) (λ c. search needs) (λ c. search needs) (λ c. search needs) again2 ended found)

@@ -1,48 +1,56 @@
--- `seek_high` meets its contract: i bytes are passed, first by blocks without a hit, then one by one.
+-- `seek_high` meets its contract: i bytes are passed, first by blocks without a hit, then one by one,
+-- if the last sixteen bytes have a hit.
 use Rattle.lexis.proofs.Passing as L
 use Rattle.lexis.proofs.Seeking as S
 use Rattle.lexis.specs.Text as T
-use borrow.Author.Tests.{lt-leb, le-leb}
+use borrow.Author.Tests.{lt-leb, le-leb, not-true}
 use lib.Dec.{leb}
 use lib.ListN.{length, drop, getD}
-use Prim.Native.Nat.{_+_, _-_, _≤_}
+use Prim.Native.Nat.{_+_, _-_}
 use mathlib.Core.Path.{_≡_, sym, _∙_}
 use borrow.Author.Needs.{needs}
 use Rattle.lexis.proofs.blocks.seek_high.Statement.{statement}
 use Rattle.lexis.proofs.blocks.seek_high.Tie as tie
 
 abbrev Inv : tie.InvT-loop
-Inv text i₀ i = (i ≤ length text) × (length (T.until (leb 128) text) ≡ i + length (T.until (leb 128) (drop i text)))
+Inv text i₀ i = length (T.until (leb 128) text) ≡ i + length (T.until (leb 128) (drop i text))
 
 abbrev μ : tie.MeasureT-loop
 μ text i₀ i = length text - i
 
 again : tie.Need-loop-again Inv μ Inv μ
 again c =
-    let l = c .before .before .before .loop in
-    let a = c .before .before .before .before .before .args in
-    (search needs, l .inv .1 ∙ L.passed (leb 128) (a .text .now) (l .i) 16 (search needs) (sym (c .before .among-high .ensures) ∙ c .if1 .left))
+    let l = c .before .before .before .before .loop in
+    let a = c .before .before .before .before .before .before .args in
+    l .inv ∙ L.passed (leb 128) (a .text .now) (l .i) 16 (search needs) (sym (c .before .among-high2 .ensures) ∙ c .if4 .left)
 
 again2 : tie.Need-loop2-again Inv μ Inv μ
 again2 c =
     let l = c .before .before .before .loop2 in
     let a = c .before .before .before .before .before .before .before .args in
-    (search needs, l .inv .1 ∙ S.until-step (leb 128) (a .text .now) (l .i) (search needs) (lt-leb 128 (getD (a .text .now) (l .i) 0) (search needs)))
+    l .inv ∙ S.until-step (leb 128) (a .text .now) (l .i) (search needs) (lt-leb 128 (getD (a .text .now) (l .i) 0) (search needs))
 
-ended : tie.Need-returns Inv μ Inv μ
+absent : tie.Need-returns Inv μ Inv μ
+absent c =
+    let l = c .before .before .before .before .before .loop in
+    let a = c .before .before .before .before .before .before .before .args in
+    sym (l .inv ∙ L.none-left (leb 128) (a .text .now) (l .i) 16 (search needs) (search needs) (search needs)
+    (sym (c .before .among-high .ensures) ∙ not-true _ (c .if3 .taken)))
+
+ended : tie.Need-returns-2 Inv μ Inv μ
 ended c =
     let l = c .before .loop2 in
     let a = c .before .before .before .before .before .args in
-    sym (l .inv .1 ∙ S.until-end (leb 128) (a .text .now) (l .i) (search needs))
+    sym (l .inv ∙ S.until-end (leb 128) (a .text .now) (l .i) (search needs))
 
-found : tie.Need-returns-2 Inv μ Inv μ
+found : tie.Need-returns-3 Inv μ Inv μ
 found c =
     let l = c .before .before .before .loop2 in
     let a = c .before .before .before .before .before .before .before .args in
-    sym (l .inv .1 ∙ S.until-stop (leb 128) (a .text .now) (l .i) (search needs) (le-leb 128 (getD (a .text .now) (l .i) 0) (search needs)))
+    sym (l .inv ∙ S.until-stop (leb 128) (a .text .now) (l .i) (search needs) (le-leb 128 (getD (a .text .now) (l .i) 0) (search needs)))
 
 pub seek-high-spec : {M : Type 1} → statement M
 seek-high-spec =
     tie.close
-    (tie.spec Inv μ Inv μ (λ c. search needs) (λ c. search needs) (λ c κs. search needs) (λ c. search needs) (λ c. search needs) again
-    (λ c. search needs) (λ c. search needs) (λ c. search needs) (λ c. search needs) again2 ended found)
+    (tie.spec Inv μ Inv μ (λ c. search needs) (λ c. search needs) (λ c. search needs) (λ c κs. search needs) absent (λ c κs. search needs) (λ c. search needs)
+    (λ c. search needs) again (λ c. search needs) (λ c. search needs) (λ c. search needs) (λ c. search needs) again2 ended found)

@@ -1,4 +1,4 @@
--- `contains` meets its contract: a text occurs where `find` tells a place.
+-- `contains` meets its contract: a text occurs where `find_by` tells a place.
 use Rattle.lexis.proofs.Seeking as L
 use Rattle.lexis.specs.Text.{cut, spot}
 use mathlib.Core.Path.{sym, ap, _∙_}
@@ -14,6 +14,6 @@ contains-spec =
     (λ c. search needs)
     (λ c. search needs)
     (λ c. let a = c .before .before .before .before .before .args in
-    sym (L.told (cut (a .what .now) (a .text .now)) (sym (c .before .before .find .ensures) ∙ ap spot (c .enum-told .given .1))))
+    sym (L.told (cut (a .what .now) (a .text .now)) (sym (c .before .before .find-by .ensures) ∙ ap spot (c .enum-told .given .1))))
     (λ c. let a = c .before .before .before .before .before .args in
-    sym (L.untold (cut (a .what .now) (a .text .now)) (sym (c .before .before .find .ensures) ∙ ap spot (c .enum-told2 .given .1)))))
+    sym (L.untold (cut (a .what .now) (a .text .now)) (sym (c .before .before .find-by .ensures) ∙ ap spot (c .enum-told2 .given .1)))))
