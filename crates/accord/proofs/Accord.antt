@@ -15,7 +15,7 @@ use Rattle.meaning.specs.Meant.{Any, Strict, fits, flat-any, taken}
 use Rattle.meaning.specs.Parts.{each}
 use Rattle.grammar.specs.Tests.{is-true}
 use Rattle.accord.proofs.Agrees.{Shown, shown, sure, agrees}
-use Rattle.writer.proofs.Ascii.{low, none-high, spell-ascii}
+use Rattle.grammar.proofs.Printed.{strict-low}
 
 -- a strict text is found to be its meaning, with every count zero
 pub strict-found : (s : Text) (a : Any) → Strict s a → each shown (parse s) ≡ some (sure a)
@@ -42,7 +42,7 @@ module _ (cap size : ℕ) (s : Text) (a : Any) (h : Strict s a) (k : length s �
   unfolding ordinary
   whole =
       ap (λ (b : Bool). if b then read-ascii cap s (high-from 0 s) else refused cap TooLong 0) (is-true (leb (length s) size) (le→leb (length s) size k))
-      ∙ ap (read-ascii cap s) (none-high 0 s (subst (λ (t : Text). T (low t)) (sym (h .text)) (spell-ascii (h .form) .below)))
+      ∙ ap (read-ascii cap s) (strict-low s a h)
       ∙ settled cap a (parse s) (strict-found s a h)
 
   pub accord : T (fits cap a) → ordinary cap size s ≡ taken cap a

@@ -9,7 +9,7 @@ use Rattle.lexis.specs.declared.text.Found.{Found}
 use Rattle.lexis.specs.declared.text.Found.the-variants.{At, Nowhere}
 use Rattle.lexis.proofs.blocks.seek.Reads as seek
 use Rattle.lexis.proofs.blocks.seek_either.Reads as seek-either
-use Rattle.lexis.proofs.blocks.seek_high.Reads as seek-high
+use Rattle.lexis.proofs.blocks.seek_outside.Reads as seek-outside
 use Rattle.lexis.proofs.text.same.Reads as same
 use Rattle.lexis.proofs.text.begins.Reads as begins
 use Rattle.lexis.proofs.text.find.Reads as find
@@ -51,8 +51,8 @@ seek-one κs a x y s t p q = p ∙ sym q
 pub seek-either-one : One seek-either.Post
 seek-either-one κs a x y s t p q = p ∙ sym q
 
-pub seek-high-one : One seek-high.Post
-seek-high-one κs a x y s t p q = p ∙ sym q
+pub seek-outside-one : One seek-outside.Post
+seek-outside-one κs a x y s t p q = p ∙ sym q
 
 pub white-one : One white.Post
 white-one κs a x y s t p q = p ∙ sym q

@@ -6,7 +6,7 @@ use Prim.Native.String.{String}
 use mathlib.Core.Bool.{Bool, true, false, _&&_, _||_}
 use mathlib.Core.List.{List, [], _∷_}
 use mathlib.Core.Option.{Option, none, some}
-use lib.Dec.{leb, eqb}
+use lib.Dec.{leb, ltb, eqb}
 use lib.ListN.{length}
 use Rattle.lexis.specs.declared.text.Found.{Found}
 use Rattle.lexis.specs.declared.text.Found.the-variants.{At, Nowhere}
@@ -80,6 +80,10 @@ occurs p s = found (cut p s)
 -- one of two bytes
 abbrev pub either : ℕ → ℕ → ℕ → Bool
 either a b c = eqb c a || eqb c b
+
+-- a byte below lo or above hi
+abbrev pub outside : ℕ → ℕ → ℕ → Bool
+outside lo hi b = ltb b lo || ltb hi b
 
 -- what stands before the first byte that passes the test, or all of s
 abbrev pub until : (ℕ → Bool) → Text → Text

@@ -1,9 +1,9 @@
 // Seeking by blocks: sixteen bytes are looked at with no early end, which a machine does in one step.
 ghost use mathlib.Core.Path.{_≡_};
 ghost use Prim.Native.Nat.{_+_, _≤_};
-ghost use lib.Dec.{eqb, leb};
+ghost use lib.Dec.{eqb};
 ghost use lib.ListN.{drop, length, take};
-ghost use Rattle.lexis.specs.Text.{either, until};
+ghost use Rattle.lexis.specs.Text.{either, outside, until};
 ghost use Rattle.lexis.specs.Parts.{some-of};
 
 // Whether one of the sixteen bytes from `at` on is `b`.
@@ -20,15 +20,16 @@ fn among(text: &[u8], at: usize, b: u8) -> bool
     hit
 }
 
-// Whether one of the sixteen bytes from `at` on is 128 or more.
-fn among_high(text: &[u8], at: usize) -> bool
+// Whether one of the sixteen bytes from `at` on is below `lo` or above `hi`.
+fn among_outside(text: &[u8], at: usize, lo: u8, hi: u8) -> bool
     requires { ⌜ at + 16 ≤ length (now text) ⌝ }
-    ensures { λ r. ⌜ r ≡ some-of (leb 128) (take 16 (drop at (now (text .entry)))) ⌝ }
+    ensures { λ r. ⌜ r ≡ some-of (outside lo hi) (take 16 (drop at (now (text .entry)))) ⌝ }
 {
     let mut hit = false;
     let mut j = 0;
     while j < 16 {
-        hit = hit | (128 <= text[at + j]);
+        let c = text[at + j];
+        hit = hit | ((c < lo) | (hi < c));
         j += 1;
     }
     hit
@@ -62,27 +63,28 @@ pub fn seek(text: &[u8], from: usize, b: u8) -> usize
     i
 }
 
-// The place of the first byte of 128 or more: the text's length, where there is none.
-pub fn seek_high(text: &[u8]) -> usize
-    ensures { λ r. ⌜ r ≡ length (until (leb 128) (now (text .entry))) ⌝ }
+// The place of the first byte below `lo` or above `hi`: the text's length, where there is none.
+pub fn seek_outside(text: &[u8], lo: u8, hi: u8) -> usize
+    ensures { λ r. ⌜ r ≡ length (until (outside lo hi) (now (text .entry))) ⌝ }
 {
     let mut i = 0;
     while i < text.len() {
         if text.len() - i < 16 {
             if 16 <= text.len() {
-                if !among_high(text, text.len() - 16) {
+                if !among_outside(text, text.len() - 16, lo, hi) {
                     return text.len();
                 }
             }
             break;
         }
-        if among_high(text, i) {
+        if among_outside(text, i, lo, hi) {
             break;
         }
         i += 16;
     }
     while i < text.len() {
-        if 128 <= text[i] {
+        let c = text[i];
+        if (c < lo) | (hi < c) {
             break;
         }
         i += 1;

@@ -4,7 +4,7 @@ mod text;
 
 pub use blocks::seek;
 pub use blocks::seek_either;
-pub use blocks::seek_high;
+pub use blocks::seek_outside;
 pub use text::Found;
 pub use text::begins;
 pub use text::contains;

@@ -5,13 +5,22 @@ use mathlib.Core.Bool.{Bool, true, false}
 use mathlib.Core.List.{[], _∷_}
 use mathlib.Core.Option.{Option, none, some}
 use mathlib.Core.Path.{_≡_, refl, ap, _∙_}
+use borrow.Author.Tests.{le-ltb}
 use lib.Dec.{leb}
 use lib.ListN.{length}
-use Rattle.lexis.specs.Text.{Text, if_then_else_, until}
+use Rattle.lexis.specs.Text.{Text, if_then_else_, outside, until}
 use Rattle.meaning.specs.Ordinary.{high-from}
 
 abbrev low : Text → ℕ
 low s = length (until (leb 128) s)
+
+-- no byte is below 0
+pub low-is : (s : Text) → length (until (outside 0 127) s) ≡ low s
+low-is s = ap length (by s)
+  where
+    by : (s : Text) → until (outside 0 127) s ≡ until (leb 128) s
+    by [] = refl
+    by (b ∷ s) = rw (le-ltb b 0 (omega arith), by s)
 
 at-from : (k : ℕ) (s : Text) → low s < length s → high-from k s ≡ some (k + low s)
 at-from k [] h = let f : ⊥ = omega arith in absurd f

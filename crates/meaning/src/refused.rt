@@ -12,7 +12,7 @@ ghost use Rattle.meaning.specs.Ordinary.{high-from, refused};
 pub fn first_high(text: &[u8]) -> Found
     ensures { λ r. ⌜ spot r ≡ high-from 0 (now (text .entry)) ⌝ }
 {
-    let i = lexis::seek_high(text);
+    let i = lexis::seek_outside(text, 0, 127);
     if i < text.len() {
         Found::At(i)
     } else {

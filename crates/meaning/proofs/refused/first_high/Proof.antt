@@ -1,5 +1,5 @@
 -- `first_high` meets its contract: the bytes before the first high one are its place.
-use mathlib.Core.Path.{sym}
+use mathlib.Core.Path.{sym, _∙_}
 use borrow.Author.Needs.{needs}
 use Rattle.meaning.proofs.High as L
 use Rattle.meaning.proofs.refused.first_high.Statement.{statement}
@@ -10,5 +10,5 @@ first-high-spec =
     tie.close
     (tie.spec
     (λ c κs. search needs)
-    (λ c. sym (L.high-at (c .before .before .before .args .text .now) _ (c .before .seek-high .ensures) (search needs)))
-    (λ c. sym (L.high-none (c .before .before .before .args .text .now) _ (c .before .seek-high .ensures) (search needs))))
+    (λ c. sym (L.high-at (c .before .before .before .args .text .now) _ (c .before .seek-outside .ensures ∙ L.low-is (c .before .before .before .args .text .now)) (search needs)))
+    (λ c. sym (L.high-none (c .before .before .before .args .text .now) _ (c .before .seek-outside .ensures ∙ L.low-is (c .before .before .before .args .text .now)) (search needs))))

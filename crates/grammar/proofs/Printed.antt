@@ -1,0 +1,200 @@
+-- Every byte of a strict text is from 32 to 127, part by part.
+use Prim.Native.Nat.{ℕ, zero, suc, _+_, _/_, _%_, _<_}
+use native.Mathlib.Nat.{mod-lt, zero-lt-suc}
+use native.Mathlib.Omega.{arith}
+use mathlib.Core.Bool.{Bool, true, false, _&&_, _||_}
+use mathlib.Core.List.{List, [], _∷_, _++_}
+use mathlib.Core.Option.{none, some}
+use mathlib.Core.Path.{_≡_, refl, sym, subst}
+use borrow.Author.Tests.{lt-leb, le-ltb, ltb-true}
+use lib.Dec.{T, ltb, leb, lt→ltb, ltb→lt, le→leb, leb→le}
+use lib.IntN.{ℤ, pos, negsuc}
+use lib.ListN.{length}
+use Rattle.lexis.specs.Text.{Text, bytes, if_then_else_, until, outside}
+use Rattle.meaning.specs.Decimal.{digits, decimal, Dim, dynamic, known, dim}
+use Rattle.meaning.specs.Ordinary.{high-from}
+use Rattle.meaning.specs.Strict as S
+use Rattle.meaning.specs.Strict.{may, nth, words, pads, Name, Place, word, pad, comma, Next, Commas, rest, commas, dims, xrest, Entries, byX, byComma}
+use Rattle.meaning.specs.Strict.{entries, cuda, mark, Pointer, pointerText, Element, element, Strides, strides, Tensor, body, Pads, padText, Intro, bare}
+use Rattle.meaning.specs.Strict.{prefixed, named, introText, View, viewText, mapText, travelText, Form, spell}
+use Rattle.meaning.specs.Meant.{Any, Strict}
+use Rattle.grammar.specs.Tests.{every, and-left, and-right, and-in}
+
+-- ── bytes from 32 to 127 ──
+
+abbrev printed : ℕ → Bool
+printed b = leb 32 b && ltb b 128
+
+abbrev plain : Text → Bool
+plain = every printed
+
+record Plain (t : Text) : Type 0 where
+  within : T (plain t)
+
+infixr 60 _also_
+_also_ : {a b : Text} → Plain a → Plain b → Plain (a ++ b)
+_also_ {a} {b} p q = record { within = by a (p .within) }
+  where
+    by : (a : Text) → T (plain a) → T (plain (a ++ b))
+    by [] h = q .within
+    by (c ∷ a) h = and-in (printed c) (plain (a ++ b)) (and-left (printed c) (plain a) h) (by a (and-right (printed c) (plain a) h))
+
+quoted : (t : Text) → T (plain t) → Plain t
+quoted t h = record { within = h }
+
+nil : Plain []
+nil = record { within = tt }
+
+listed : (l : List Text) (i : ℕ) → T (every plain l) → T (plain (nth [] l i))
+listed [] i h = tt
+listed (t ∷ l) zero h = and-left (plain t) (every plain l) h
+listed (t ∷ l) (suc i) h = listed l i (and-right (plain t) (every plain l) h)
+
+none-high : (k : ℕ) (t : Text) → T (plain t) → high-from k t ≡ none
+none-high k [] h = refl
+none-high k (b ∷ t) h =
+    let e = lt-leb 128 b (ltb→lt b 128 (and-right (leb 32 b) (ltb b 128) (and-left (printed b) (plain t) h))) in
+    rw e (none-high (suc k) t (and-right (printed b) (plain t) h))
+
+none-outside : (t : Text) → T (plain t) → length (until (outside 32 127) t) ≡ length t
+none-outside [] h = refl
+none-outside (b ∷ t) h =
+    let p = and-left (printed b) (plain t) h in
+    let l = le-ltb b 32 (leb→le 32 b (and-left (leb 32 b) (ltb b 128) p)) in
+    let u = le-ltb 127 b (let k = ltb→lt b 128 (and-right (leb 32 b) (ltb b 128) p) in omega arith) in
+    rw (l, u, none-outside t (and-right (printed b) (plain t) h))
+
+-- where no byte stands outside, none is high
+pub inside-low : (k : ℕ) (t : Text) → length (until (outside 32 127) t) ≡ length t → high-from k t ≡ none
+inside-low k [] h = refl
+inside-low k (b ∷ t) h = by (ltb b 32) (leb 128 b) h (inside-low (suc k) t)
+  where
+    by : (c d : Bool) → length (if c || d then [] else b ∷ until (outside 32 127) t) ≡ suc (length t) → (length (until (outside 32 127) t) ≡ length t → high-from (suc k) t ≡ none)
+        → (if d then some k else high-from (suc k) t) ≡ none
+    by true d e r = let f : ⊥ = omega arith in absurd f
+    by false true e r = let f : ⊥ = omega arith in absurd f
+    by false false e r = r (omega arith)
+
+-- ── numbers ──
+
+digit-plain : (d : ℕ) (t : Text) → d < 10 → T (plain t) → T (plain ((48 + d) ∷ t))
+digit-plain d t k h =
+    and-in (printed (48 + d)) (plain t) (and-in (leb 32 (48 + d)) (ltb (48 + d) 128) (le→leb 32 (48 + d) (omega arith)) (lt→ltb (48 + d) 128 (omega arith))) h
+
+digits-plain : (f n : ℕ) (t : Text) → T (plain t) → T (plain (digits f n t))
+digits-plain zero n t h = digit-plain (n % 10) t (mod-lt n (zero-lt-suc 9)) h
+digits-plain (suc f) n t h = by (ltb n 10) (ltb-true n 10) (digits-plain f (n / 10) ((48 + n % 10) ∷ t) (digit-plain (n % 10) t (mod-lt n (zero-lt-suc 9)) h))
+  where
+    by : (b : Bool) → (b ≡ true → n < 10) → T (plain (digits f (n / 10) ((48 + n % 10) ∷ t))) →
+        T (plain (elim b as (λ _. Text) [ true ↦ (48 + n) ∷ t | false ↦ digits f (n / 10) ((48 + n % 10) ∷ t) ]))
+    by true e k = digit-plain n t (e refl) h
+    by false e k = k
+
+decimal-plain : (z : ℤ) → Plain (decimal z)
+decimal-plain (pos n) = record { within = digits-plain n n [] tt }
+decimal-plain (negsuc n) = record { within = digits-plain (suc n) (suc n) [] tt }
+
+dim-plain : (d : Dim) → Plain (dim d)
+dim-plain dynamic = quoted (bytes "?") tt
+dim-plain (known z) = decimal-plain z
+
+-- ── the parts of a form ──
+
+may-plain : (b : Bool) {t : Text} → Plain t → Plain (may b t)
+may-plain true h = h
+may-plain false h = nil
+
+word-plain : (n : Name) → Plain (word n)
+word-plain n = record { within = listed words (n .index) tt }
+
+pad-plain : (p : Place 5) → Plain (pad p)
+pad-plain p = record { within = listed pads (p .index) tt }
+
+comma-plain : (s : Bool) → Plain (comma s)
+comma-plain s = quoted (bytes ",") tt also may-plain s (quoted (bytes " ") tt)
+
+rest-plain : {A : Type 0} (f : A → Text) → ((a : A) → Plain (f a)) → (l : List (Next A)) → Plain (rest f l)
+rest-plain f h [] = nil
+rest-plain f h (n ∷ l) = comma-plain (n .space) also h (n .entry) also rest-plain f h l
+
+commas-plain : {A : Type 0} (f : A → Text) → ((a : A) → Plain (f a)) → (c : Commas A) → Plain (commas f c)
+commas-plain f h c = h (c .head) also rest-plain f h (c .tail)
+
+dims-plain : (l : List Dim) → Plain (dims l)
+dims-plain [] = nil
+dims-plain (d ∷ l) = dim-plain d also quoted (bytes "x") tt also dims-plain l
+
+xrest-plain : (l : List ℤ) → Plain (xrest l)
+xrest-plain [] = nil
+xrest-plain (z ∷ l) = quoted (bytes "x") tt also decimal-plain z also xrest-plain l
+
+entries-plain : (e : Entries) → Plain (entries e)
+entries-plain (byX z l) = decimal-plain z also xrest-plain l
+entries-plain (byComma c) = commas-plain decimal decimal-plain c
+
+cuda-plain : (b : Bool) → Plain (cuda b)
+cuda-plain b = may-plain b (quoted (bytes "!cuda_tile.") tt)
+
+mark-plain : (b : Bool) → Plain (mark b)
+mark-plain b = may-plain b (quoted (bytes ", #cuda_tile.ptr_attr<none>") tt)
+
+pointer-plain : (p : Pointer) → Plain (pointerText p)
+pointer-plain p = cuda-plain (p .front) also quoted (bytes "ptr<") tt also word-plain (p .name) also mark-plain (p .marked) also quoted (bytes ">") tt
+
+element-plain : (e : Element) → Plain (element e)
+element-plain (S.plain n) = word-plain n
+element-plain (S.pointer p) = pointer-plain p
+
+strides-plain : (s : Strides) {t : Text} → Plain t → Plain (strides s t)
+strides-plain S.Strides.absent h = h
+strides-plain (S.Strides.given s c) h = comma-plain s also quoted (bytes "strides=[") tt also commas-plain dim dim-plain c also quoted (bytes "]") tt also h
+
+body-plain : (t : Tensor) → Plain (body t)
+body-plain t = dims-plain (t .shape) also word-plain (t .name) also strides-plain (t .strides) (mark-plain (t .marked))
+
+pads-plain : (p : Pads) → Plain (padText p)
+pads-plain S.Pads.absent = nil
+pads-plain (S.Pads.given p s) = quoted (bytes "padding_value=") tt also pad-plain p also comma-plain s
+
+intro-plain : (i : Intro) → Plain (introText i)
+intro-plain bare = nil
+intro-plain prefixed = quoted (bytes "!cuda_tile.") tt
+intro-plain named = quoted (bytes "tensor_view=!cuda_tile.") tt
+
+view-plain : (v : View) {m d : Text} → Plain m → Plain d → Plain (viewText v m d)
+view-plain v m d =
+    quoted (bytes "tile=(") tt also entries-plain (v .tile) also quoted (bytes ")") tt also comma-plain (v .space) also m
+    also pads-plain (v .padding) also intro-plain (v .intro) also quoted (bytes "tensor_view<") tt also body-plain (v .tensor)
+    also quoted (bytes ">") tt also comma-plain (v .space′) also d
+
+map-plain : (c : Commas ℤ) → Plain (mapText c)
+map-plain c = quoted (bytes "dim_map=[") tt also commas-plain decimal decimal-plain c also quoted (bytes "]") tt
+
+travel-plain : (c : Commas ℤ) (s : Bool) → Plain (travelText c s)
+travel-plain c s =
+    quoted (bytes "traversal_strides=[") tt also commas-plain decimal decimal-plain c also quoted (bytes "]") tt also comma-plain s
+
+-- ── strict texts ──
+
+spell-plain : (f : Form) → Plain (spell f)
+spell-plain (S.scalar n) = word-plain n
+spell-plain (S.token p) = cuda-plain p also quoted (bytes "token") tt
+spell-plain (S.ptr p) = pointer-plain p
+spell-plain (S.tile p ds e) = cuda-plain p also quoted (bytes "tile<") tt also dims-plain ds also element-plain e also quoted (bytes ">") tt
+spell-plain (S.tensor p t) = cuda-plain p also quoted (bytes "tensor_view<") tt also body-plain t also quoted (bytes ">") tt
+spell-plain (S.partition v c) =
+    cuda-plain (v .front) also quoted (bytes "partition_view<") tt also view-plain v nil (map-plain c) also quoted (bytes ">") tt
+spell-plain (S.gather v z) =
+    cuda-plain (v .front) also quoted (bytes "gather_scatter_view<") tt also view-plain v nil (quoted (bytes "sparse_dim=") tt also decimal-plain z) also quoted (bytes ">") tt
+spell-plain (S.strided v c s d) =
+    cuda-plain (v .front) also quoted (bytes "strided_view<") tt also view-plain v (travel-plain c s) (map-plain d) also quoted (bytes ">") tt
+
+plainly : (t : Text) (a : Any) → Strict t a → T (plain t)
+plainly t a h = subst (λ (u : Text). T (plain u)) (sym (h .text)) (spell-plain (h .form) .within)
+
+-- A STRICT TEXT IS ASCII, AND A TEXT WITH A BYTE OUTSIDE IS NOT STRICT
+pub strict-low : (t : Text) (a : Any) → Strict t a → high-from 0 t ≡ none
+strict-low t a h = none-high 0 t (plainly t a h)
+
+pub outside-loose : (t : Text) → (length (until (outside 32 127) t) ≡ length t → ⊥) → (a : Any) → Strict t a → ⊥
+outside-loose t o a h = o (none-outside t (plainly t a h))
