@@ -13,17 +13,10 @@ use Rattle.grammar.specs.Until.{Ended, first, until-read}
 use Rattle.grammar.specs.Number.{ten, digits-after}
 use Rattle.grammar.specs.Several.{num32, dim64, item, x32, same}
 use Rattle.strict.specs.Cursor.{numeral, dimension}
-use Rattle.strict.specs.Rows.{more, rows, commas32, xs32, commas64, tail32, list32, list64}
+use Rattle.strict.specs.Rows.{more, rows, commas32, xs32, parts32, commas64, tail32, list32, list64}
 use Rattle.strict.proofs.Rows as R
-use Rattle.strict.proofs.Items.{num-is, dim-is, commas32-nil}
+use Rattle.strict.proofs.Items.{item32, item64, num-is, dim-is, parts32-are}
 use Rattle.strict.proofs.Together.{closing, close}
-
--- an entry of 32 bits after a comma, and a dimension after one
-abbrev pub item32 : Piece false (bytes ",") ℤ digits-after
-item32 = item num32 tt in32 decimal same (λ a t i. i) (λ a t i. i)
-
-abbrev pub item64 : Piece false (bytes ",") ℤ digits-after
-item64 = item dim64 tt in64 dim size (λ a t i. i) (λ a t i. i)
 
 module _ {G : List ℕ} {B : Type 0} {E : B → List ℕ} (Q : Piece false G B E) (sepc : T (apart G (bytes ","))) (sept : T (apart G ten)) (nil : Q .read [] ≡ stuck []) where
   pub large-list : (t : List ℕ) → after (λ a r. mapped (first a) (until-read item64 Q sepc (λ a. sept) r)) (dim64 .read t) ≡ after (close (Q .read)) (list64 t)
@@ -31,7 +24,7 @@ module _ {G : List ℕ} {B : Type 0} {E : B → List ℕ} (Q : Piece false G B E
   large-list t = ap (after (λ a r. mapped (first a) (until-read item64 Q sepc (λ a. sept) r))) (dim-is t) ∙ R.list item64 Q sepc (λ a. sept) nil (dimension t)
 
   pub small-list : (t : List ℕ) → after (λ a r. mapped (first a) (until-read item32 Q sepc (λ a. sept) r)) (num32 .read t) ≡ after (close (Q .read)) (list32 false t)
-  unfolding tail32 commas32
+  unfolding commas32
   small-list t = ap (after (λ a r. mapped (first a) (until-read item32 Q sepc (λ a. sept) r))) (num-is t) ∙ R.list item32 Q sepc (λ a. sept) nil (numeral (2 ^ 31) (2 ^ 31 + 1) t)
 
   -- by `x` or by commas, as the byte after the first entry says
@@ -51,11 +44,10 @@ module _ {G : List ℕ} {B : Type 0} {E : B → List ℕ} (Q : Piece false G B E
     at-comma t = R.parts item32 Q sepc (λ a. sept) nil t
 
     tail : (t : List ℕ) → fork (bytes "x") by-x by-comma t ≡ after (close (Q .read)) (tail32 true t)
-    unfolding tail32
-    tail [] = sym (ap (after (close (Q .read))) commas32-nil ∙ ap (mapped (closing [])) nil)
+    tail [] = sym (ap (after (close (Q .read))) (parts32-are false .nil) ∙ ap (mapped (closing [])) nil)
     tail (c ∷ t) = by (eqb c 120) (eqb→eq c 120)
       where
-        by : (k : Bool) → (T k → c ≡ 120) → cond (k || false) (by-x (c ∷ t)) (by-comma (c ∷ t)) ≡ after (close (Q .read)) (cond k (xs32 (c ∷ t)) (commas32 (c ∷ t)))
+        by : (k : Bool) → (T k → c ≡ 120) → cond (k || false) (by-x (c ∷ t)) (by-comma (c ∷ t)) ≡ after (close (Q .read)) (parts32 k (c ∷ t))
         by true f = subst (λ (z : ℕ). by-x (z ∷ t) ≡ after (close (Q .read)) (xs32 (z ∷ t))) (sym (f tt)) (at-x t)
         by false f = at-comma (c ∷ t)
 

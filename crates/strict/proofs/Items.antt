@@ -1,28 +1,23 @@
 -- The pieces of the strict reader, as the code reads them: numerals, dimensions, items of lists. Each by its first byte.
-use Prim.Native.Nat.{ℕ, zero, suc, _+_, _-_, _^_}
+use Prim.Native.Nat.{ℕ, zero, suc, _+_, _-_, _^_, _<_}
 use mathlib.Core.Bool.{Bool, true, false, cond, _||_}
 use mathlib.Core.List.{List, [], _∷_, _++_}
-use mathlib.Core.Path.{_≡_, refl, sym, ap, _∙_}
-use borrow.Author.Tests.{leb-true, leb-false}
-use lib.Dec.{leb, T, eqb, eqb→eq}
+use mathlib.Core.Path.{_≡_, refl, sym, subst, ap, _∙_}
+use lib.Dec.{T, eqb, eqb→eq}
 use lib.IntN.{ℤ, pos, negsuc}
+use lib.ListN.{drop, length}
 use Rattle.lexis.specs.Text.{bytes}
 use Rattle.meaning.specs.Decimal.{decimal, in32, in64, dim, size}
-use Rattle.grammar.specs.Piece.{Answer, got, stuck, member}
+use Rattle.grammar.specs.Piece.{Answer, got, stuck, member, Piece}
 use Rattle.grammar.specs.Join.{mapped, after}
 use Rattle.grammar.specs.Table.{pick, _↝_}
 use Rattle.grammar.specs.Number as N
+use Rattle.grammar.specs.Number.{digits-after}
 use Rattle.grammar.specs.Several.{num32, dim64, item, x32, dimx, same, figs?}
 use Rattle.strict.specs.Cursor as C
-use Rattle.strict.specs.Rows.{more, commas32, xs32, commas64, dims64}
-use Prim.Native.Nat.{_≤_, _<_}
-use native.Mathlib.Omega.{arith}
-use lib.ListN.{drop, length, getD, drop-of-length-le, length-drop}
-use borrow.Author.Tests.{ne-eqb}
-use Rattle.strict.specs.Rows.{dim-x, tail32}
+use Rattle.strict.specs.Rows.{more, rows, commas32, xs32, parts32, commas64, dims64, dim-x}
 use Rattle.strict.specs.Words.{choose}
 use Rattle.strict.proofs.Rows.{turn, less}
-use Rattle.strict.proofs.Numbers.{view}
 use Rattle.strict.proofs.Picking.{choose-label}
 
 pub pick-done : {A : Type 0} (a : A) (t : List ℕ) → pick t (([] ↝ a) ∷ []) ≡ got a t
@@ -76,6 +71,13 @@ dim-is (c ∷ t) = by (eqb c 63) (eqb→eq c 63)
     by false f = number-is (2 ^ 63) (2 ^ 63 - 1) tt tt (c ∷ t)
 
 -- ── items ──
+-- an entry of 32 bits after a comma, and a dimension after one
+abbrev pub item32 : Piece false (bytes ",") ℤ digits-after
+item32 = item num32 tt in32 decimal same (λ a t i. i) (λ a t i. i)
+
+abbrev pub item64 : Piece false (bytes ",") ℤ digits-after
+item64 = item dim64 tt in64 dim size (λ a t i. i) (λ a t i. i)
+
 -- a comma was read
 space-is : (t : List ℕ) → pick t (([] ↝ tt {0}) ∷ (bytes " " ↝ tt) ∷ []) ≡ got tt (C.skip t)
 space-is [] = refl
@@ -89,50 +91,42 @@ space-is (c ∷ t) = by (eqb 32 c)
 abbrev pub goes : (List ℕ → Answer (List ℤ)) → Answer ℤ → Answer (List ℤ)
 goes f p = after (λ z r. mapped (more z) (f r)) p
 
-off : {X : Type 0} (c d : ℕ) (a b : X) → (c ≡ d → ⊥) → cond (eqb c d || false) a b ≡ b
-off {X} c d a b n = by (eqb c d) (eqb→eq c d)
-  where
-    by : (k : Bool) → (T k → c ≡ d) → cond (k || false) a b ≡ b
-    by true f = absurd (n (f tt))
-    by false f = refl
+-- a list of items: it ends with the text, or before a byte that begins none, or goes on with an item, which is not empty
+pub record Parts (f : List ℕ → Answer (List ℤ)) (F : List ℕ) (g : List ℕ → Answer ℤ) : Type 0 where
+  pub nil : f [] ≡ got [] []
+  pub off : (c : ℕ) (t : List ℕ) → member c F ≡ false → f (c ∷ t) ≡ got [] (c ∷ t)
+  pub on : (c : ℕ) (t : List ℕ) → member c F ≡ true → f (c ∷ t) ≡ goes f (g (c ∷ t))
+  pub shorter : (c : ℕ) (t r : List ℕ) (z : ℤ) → member c F ≡ true → g (c ∷ t) ≡ got z r → length r < length (c ∷ t)
 
-pub commas32-nil : commas32 [] ≡ got [] []
-unfolding commas32
-commas32-nil = refl
+module _ {F : List ℕ} {E : ℤ → List ℕ} (P : Piece false F ℤ E) where
+  abbrev goes-if : ℕ → List ℕ → Bool → Answer (List ℤ)
+  goes-if c t k = cond k (goes (rows P) (P .read (c ∷ t))) (got [] (c ∷ t))
 
-pub commas32-off : (c : ℕ) (t : List ℕ) → (c ≡ 44 → ⊥) → commas32 (c ∷ t) ≡ got [] (c ∷ t)
-unfolding commas32
-commas32-off c t n = turn (item num32 tt in32 decimal same (λ a t i. i) (λ a t i. i)) c t ∙ off c 44 _ (got [] (c ∷ t)) n
+  of : (g : List ℕ → Answer ℤ) → ((c : ℕ) (t : List ℕ) → member c F ≡ true → P .read (c ∷ t) ≡ g (c ∷ t)) → Parts (rows P) F g
+  of g r = record {
+    nil = refl;
+    off = λ c t h. turn P c t ∙ ap (goes-if c t) h;
+    on = λ c t h. turn P c t ∙ ap (goes-if c t) h ∙ ap (goes (rows P)) (r c t h);
+    shorter = λ c t u z h e. less P (c ∷ t) u z (r c t h ∙ e);
+  }
 
-pub commas32-on : (t : List ℕ) → commas32 (44 ∷ t) ≡ goes commas32 (C.numeral (2 ^ 31) (2 ^ 31 + 1) (C.skip t))
-unfolding commas32
-commas32-on t = turn (item num32 tt in32 decimal same (λ a t i. i) (λ a t i. i)) 44 t
-    ∙ ap (λ (p : Answer (Unit {0})). goes commas32 (after (λ u. num32 .read) p)) (space-is t) ∙ ap (goes commas32) (num-is (C.skip t))
+-- behind a separator
+module _ (d : ℕ) (f : List ℕ → Answer ℤ) (x : Bool) (g : List ℕ → Answer ℤ) where
+  behind : ((t : List ℕ) → f (d ∷ t) ≡ g (C.gap x t)) → (c : ℕ) (t : List ℕ) → member c (d ∷ []) ≡ true → f (c ∷ t) ≡ g (C.gap x (drop 1 (c ∷ t)))
+  behind h c t = by (eqb c d) (eqb→eq c d)
+    where
+      by : (k : Bool) → (T k → c ≡ d) → k || false ≡ true → f (c ∷ t) ≡ g (C.gap x t)
+      by true e m = ap (λ (z : ℕ). f (z ∷ t)) (e tt) ∙ h t
+      by false e m = let z : T false = subst T (sym m) tt in absurd z
 
-pub commas64-nil : commas64 [] ≡ got [] []
+pub parts32-are : (x : Bool) → Parts (parts32 x) (cond x 120 44 ∷ []) (λ t. C.numeral (2 ^ 31) (2 ^ 31 + 1) (C.gap x (drop 1 t)))
+unfolding commas32 xs32
+parts32-are false = of item32 _ (behind 44 (item32 .read) false (C.numeral (2 ^ 31) (2 ^ 31 + 1)) (λ t. ap (after (λ (u : Unit {0}). num32 .read)) (space-is t) ∙ num-is (C.skip t)))
+parts32-are true = of x32 _ (behind 120 (x32 .read) true (C.numeral (2 ^ 31) (2 ^ 31 + 1)) (λ t. ap (after (λ (u : Unit {0}). num32 .read)) (pick-done tt t) ∙ num-is t))
+
+pub commas64-are : Parts commas64 (44 ∷ []) (λ t. C.dimension (C.gap false (drop 1 t)))
 unfolding commas64
-commas64-nil = refl
-
-pub commas64-off : (c : ℕ) (t : List ℕ) → (c ≡ 44 → ⊥) → commas64 (c ∷ t) ≡ got [] (c ∷ t)
-unfolding commas64
-commas64-off c t n = turn (item dim64 tt in64 dim size (λ a t i. i) (λ a t i. i)) c t ∙ off c 44 _ (got [] (c ∷ t)) n
-
-pub commas64-on : (t : List ℕ) → commas64 (44 ∷ t) ≡ goes commas64 (C.dimension (C.skip t))
-unfolding commas64
-commas64-on t = turn (item dim64 tt in64 dim size (λ a t i. i) (λ a t i. i)) 44 t
-    ∙ ap (λ (p : Answer (Unit {0})). goes commas64 (after (λ u. dim64 .read) p)) (space-is t) ∙ ap (goes commas64) (dim-is (C.skip t))
-
-pub xs32-nil : xs32 [] ≡ got [] []
-unfolding xs32
-xs32-nil = refl
-
-pub xs32-off : (c : ℕ) (t : List ℕ) → (c ≡ 120 → ⊥) → xs32 (c ∷ t) ≡ got [] (c ∷ t)
-unfolding xs32
-xs32-off c t n = turn x32 c t ∙ off c 120 _ (got [] (c ∷ t)) n
-
-pub xs32-on : (t : List ℕ) → xs32 (120 ∷ t) ≡ goes xs32 (C.numeral (2 ^ 31) (2 ^ 31 + 1) t)
-unfolding xs32
-xs32-on t = turn x32 120 t ∙ ap (λ (p : Answer (Unit {0})). goes xs32 (after (λ u. num32 .read) p)) (pick-done tt t) ∙ ap (goes xs32) (num-is t)
+commas64-are = of item64 _ (behind 44 (item64 .read) false C.dimension (λ t. ap (after (λ (u : Unit {0}). dim64 .read)) (space-is t) ∙ dim-is (C.skip t)))
 
 -- ── a dimension and an `x` ──
 dimx-is : (t : List ℕ) → dimx .read t ≡ dim-x t
@@ -142,55 +136,6 @@ dimx-is t = ap (after (λ (z : ℤ) r. pick r ((bytes "x" ↝ z) ∷ []))) (dim-
     by (got z r) = choose-label (λ (k : ℕ). z) (bytes "x|") r
     by (stuck r) = refl
 
-pub dims64-nil : dims64 [] ≡ got [] []
+pub dims64-are : Parts dims64 figs? dim-x
 unfolding dims64
-dims64-nil = refl
-
-pub dims64-off : (c : ℕ) (t : List ℕ) → member c figs? ≡ false → dims64 (c ∷ t) ≡ got [] (c ∷ t)
-unfolding dims64
-dims64-off c t n = turn dimx c t ∙ ap (λ (k : Bool). cond k (goes dims64 (dimx .read (c ∷ t))) (got [] (c ∷ t))) n
-
-pub dims64-on : (c : ℕ) (t : List ℕ) → member c figs? ≡ true → dims64 (c ∷ t) ≡ goes dims64 (dim-x (c ∷ t))
-unfolding dims64
-dims64-on c t n = turn dimx c t ∙ ap (λ (k : Bool). cond k (goes dims64 (dimx .read (c ∷ t))) (got [] (c ∷ t))) n ∙ ap (goes dims64) (dimx-is (c ∷ t))
-
-pub dims64-at : (s : List ℕ) (i : ℕ) → i < length s → member (getD s i 0) figs? ≡ true → dims64 (drop i s) ≡ goes dims64 (dim-x (drop i s))
-dims64-at s i h m = ap dims64 (view s i h) ∙ dims64-on (getD s i 0) (drop (i + 1) s) m ∙ ap (λ (x : List ℕ). goes dims64 (dim-x x)) (sym (view s i h))
-
-pub dims64-less : (s : List ℕ) (i p : ℕ) (z : ℤ) → i < length s → p ≤ length s → dim-x (drop i s) ≡ got z (drop p s) → i < p
-dims64-less s i p z h k e = let l = less dimx (drop i s) (drop p s) z (dimx-is (drop i s) ∙ e) in let a = length-drop i s in let b = length-drop p s in omega arith
-
--- ── what follows the first entry ──
-module _ (s : List ℕ) (i : ℕ) where
-  pub tail-plain : (x : Bool) → x ≡ false → tail32 x (drop i s) ≡ commas32 (drop i s)
-  unfolding tail32
-  tail-plain x e = ap (λ (k : Bool). tail32 k (drop i s)) e
-
-  end-of : (t : List ℕ) → t ≡ [] → tail32 true t ≡ commas32 t
-  unfolding tail32
-  end-of [] e = refl
-  end-of (c ∷ t) e = let z : _≡_ {A = ℕ} 0 1 = cc in absurd (omega arith)
-
-  pub tail-end : (x : Bool) → x ≡ true → length s ≤ i → tail32 x (drop i s) ≡ commas32 (drop i s)
-  tail-end x e h = ap (λ (k : Bool). tail32 k (drop i s)) e ∙ end-of (drop i s) (drop-of-length-le s h)
-
-  on-x : (c : ℕ) (t : List ℕ) → c ≡ 120 → tail32 true (c ∷ t) ≡ xs32 (c ∷ t)
-  unfolding tail32
-  on-x c t e = rw e
-
-  on-c : (c : ℕ) (t : List ℕ) → (c ≡ 120 → ⊥) → tail32 true (c ∷ t) ≡ commas32 (c ∷ t)
-  unfolding tail32
-  on-c c t n = rw (ne-eqb c 120 n)
-
-  pub tail-x : (x : Bool) → x ≡ true → i < length s → getD s i 0 ≡ 120 → tail32 x (drop i s) ≡ xs32 (drop i s)
-  tail-x x e h n = ap (λ (k : Bool). tail32 k (drop i s)) e ∙ ap (tail32 true) (view s i h) ∙ on-x (getD s i 0) (drop (i + 1) s) n ∙ ap xs32 (sym (view s i h))
-
-  pub tail-comma : (x : Bool) → x ≡ true → i < length s → (getD s i 0 ≡ 120 → ⊥) → tail32 x (drop i s) ≡ commas32 (drop i s)
-  tail-comma x e h n = ap (λ (k : Bool). tail32 k (drop i s)) e ∙ ap (tail32 true) (view s i h) ∙ on-c (getD s i 0) (drop (i + 1) s) n ∙ ap commas32 (sym (view s i h))
-
-  pub tail-other : (x : Bool) → x ≡ true → (getD s i 0 ≡ 120 → ⊥) → tail32 x (drop i s) ≡ commas32 (drop i s)
-  tail-other x e n = by (leb (length s) i) refl
-    where
-      by : (k : Bool) → leb (length s) i ≡ k → tail32 x (drop i s) ≡ commas32 (drop i s)
-      by true h = tail-end x e (leb-true (length s) i h)
-      by false h = tail-comma x e (leb-false (length s) i h) n
+dims64-are = of dimx dim-x (λ c t m. dimx-is (c ∷ t))

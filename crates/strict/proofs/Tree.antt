@@ -20,11 +20,7 @@ use Rattle.strict.proofs.Cursors as C
 use Rattle.strict.proofs.Chain as H
 
 -- ── the byte at a place ──
-abbrev head : List ℕ → ℕ
-head [] = 0
-head (c ∷ t) = c
-
-byte : (s : List ℕ) (at : ℕ) → getD s at 0 ≡ head (drop at s)
+pub byte : (s : List ℕ) (at : ℕ) → getD s at 0 ≡ getD (drop at s) 0 0
 byte [] zero = refl
 byte [] (suc n) = refl
 byte (c ∷ s) zero = refl
@@ -98,7 +94,7 @@ begin-advance b bs (e ∷ es) n h = by (e .word) (and-left (first bs (e .word)) 
     by [] f q = absurd f
     by (x ∷ w) f q = rw (ne-eqb x b (apart-member b x bs n f)) q
 
-halt : (t bs : List ℕ) (es : List (Entry ℕ)) → Apart (head t) bs → T (begin bs es) → among es t ≡ stuck t
+halt : (t bs : List ℕ) (es : List (Entry ℕ)) → Apart (getD t 0 0) bs → T (begin bs es) → among es t ≡ stuck t
 unfolding among
 halt [] bs es n h = ap (λ (z : Option ℕ). settle z []) (begin-done bs es h)
 halt (c ∷ t) bs es n h = λ i. step (begin-done bs es h i) (begin-advance c bs es n h i)
@@ -155,7 +151,7 @@ others-advance b c n (e ∷ es) = by (e .word) (others-advance b c n es)
         on true f = rw (ne-eqb x c (λ z. n (sym z ∙ f tt))) q
         on false f = ap (λ (z : List (Entry ℕ)). cond (eqb x c) ((w ↝ e .value) ∷ []) [] ++ z) q
 
-omits : (t : List ℕ) (b : ℕ) (es : List (Entry ℕ)) → (head t ≡ b → ⊥) → among es t ≡ among (others b es) t
+omits : (t : List ℕ) (b : ℕ) (es : List (Entry ℕ)) → (getD t 0 0 ≡ b → ⊥) → among es t ≡ among (others b es) t
 unfolding among
 omits [] b es n = ap (λ (z : Option ℕ). settle z []) (sym (others-done b es))
 omits (c ∷ t) b es n = λ i. step (sym (others-done b es) i) (sym (others-advance b c n es) i)
@@ -320,7 +316,7 @@ pub comes : (s : List ℕ) (at : ℕ) (p : Answer ℕ) (i k : ℕ) (r : Picked) 
 comes s at p i k r q h o e = subst (λ (z : Picked). Told s at p (z .word) (z .end)) (sym q) (C.past s at p k i h o e)
 
 pub getD-out : (s : List ℕ) (i : ℕ) → length s ≤ i → getD s i 0 ≡ 0
-getD-out s i h = byte s i ∙ ap head (drop-of-length-le s h)
+getD-out s i h = byte s i ∙ ap (λ (t : List ℕ). getD t 0 0) (drop-of-length-le s h)
 
 pub has-first : (v w : List ℕ) → T (differ v w) → 0 < length w
 has-first [] w d = absurd d

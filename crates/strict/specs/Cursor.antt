@@ -1,6 +1,6 @@
 -- What an answer of the code says of the text: a value with the place after it, or the place where it is stuck; and the numerals.
 use Prim.Native.Nat.{ℕ, _+_, _-_, _^_, _≤_}
-use mathlib.Core.Bool.{cond}
+use mathlib.Core.Bool.{Bool, cond}
 use mathlib.Core.List.{List, [], _∷_}
 use mathlib.Core.Path.{_≡_}
 use lib.Dec.{eqb, leb}
@@ -59,7 +59,11 @@ abbrev pub skip : List ℕ → List ℕ
 skip [] = []
 skip (c ∷ t) = cond (eqb 32 c) t (c ∷ t)
 
-pub record Spaced (s : List ℕ) (at r : ℕ) : Type 0 where
-  pub same : skip (drop at s) ≡ drop r s
+-- behind an `x` none may stand
+abbrev pub gap : Bool → List ℕ → List ℕ
+gap x t = cond x t (skip t)
+
+pub record Spaced (x : Bool) (s : List ℕ) (at r : ℕ) : Type 0 where
+  pub same : gap x (drop at s) ≡ drop r s
   pub inside : r ≤ length s
   pub onward : at ≤ r

@@ -1,8 +1,8 @@
 -- The items that stand one after the other, without what ends them: a list of any length. The fuel is enough (proofs/Rows).
 use Prim.Native.Nat.{ℕ, zero, suc}
-use mathlib.Core.Bool.{Bool, true, false, cond}
+use mathlib.Core.Bool.{Bool, true, false, cond, _&&_}
 use mathlib.Core.List.{List, [], _∷_}
-use lib.ListN.{length}
+use lib.ListN.{length, getD}
 use lib.IntN.{ℤ}
 use Rattle.grammar.specs.Piece.{member, Answer, got, stuck, Piece}
 use Rattle.grammar.specs.Join.{mapped, after}
@@ -43,11 +43,14 @@ dims64 = rows dimx
 abbrev pub dim-x : List ℕ → Answer ℤ
 dim-x t = after (λ z r. mapped (λ k. z) (choose (bytes "x|") r)) (dimension t)
 
+-- by `x`, or by commas
+abbrev pub parts32 : Bool → List ℕ → Answer (List ℤ)
+parts32 false = commas32
+parts32 true = xs32
+
 -- what follows the first entry: by commas, or, where it may, by `x`
-unfoldable pub tail32 : Bool → List ℕ → Answer (List ℤ)
-tail32 false t = commas32 t
-tail32 true [] = commas32 []
-tail32 true (c ∷ t) = cond (eqb c 120) (xs32 (c ∷ t)) (commas32 (c ∷ t))
+abbrev pub tail32 : Bool → List ℕ → Answer (List ℤ)
+tail32 x t = parts32 (x && eqb (getD t 0 0) 120) t
 
 -- at least one entry
 abbrev pub list32 : Bool → List ℕ → Answer (List ℤ)

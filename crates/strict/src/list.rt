@@ -15,7 +15,7 @@ ghost use Rattle.grammar.specs.Piece.{member};
 ghost use Rattle.grammar.specs.Several.{figs?};
 ghost use Rattle.strict.specs.Cursor.{Told, place};
 ghost use Rattle.strict.specs.Words.{next};
-ghost use Rattle.strict.specs.Rows.{commas32, xs32, commas64, dims64, dim-x, tail32, list32, list64};
+ghost use Rattle.strict.specs.Rows.{parts32, commas64, dims64, dim-x, list32, list64};
 ghost use Rattle.strict.specs.Lists.{row, nothing, pushes};
 
 // How many entries were read, with the end.
@@ -41,41 +41,20 @@ fn put64(out: &mut [i64], n: usize, v: i64)
     }
 }
 
-// A comma and a numeral, again and again.
-fn read_commas32(s: &[u8], at: usize, out: &mut [i32]) -> Listed
+// A separator and a numeral, again and again; the separator is an `x`, or a comma.
+fn read_parts32(s: &[u8], at: usize, x: bool, out: &mut [i32]) -> Listed
     requires { ⌜ at ≤ length (now s) ⌝ }
-    ensures { λ r. ⌜ Told (now (s .entry)) at (mapped (pushes (row (now (out .entry)) 1)) (commas32 (drop at (now (s .entry))))) (row (now (out .exit)) (r .len)) (r .end) ⌝ }
+    ensures { λ r. ⌜ Told (now (s .entry)) at (mapped (pushes (row (now (out .entry)) 1)) (parts32 x (drop at (now (s .entry))))) (row (now (out .exit)) (r .len)) (r .end) ⌝ }
 {
+    let sep = if x { 120 } else { 44 };
     let mut n = 1;
     let mut i = at;
     while i < s.len() {
-        if s[i] != 44 {
+        if s[i] != sep {
             return Listed { len: n, end: i };
         }
-        let q = space(s, i + 1);
+        let q = space(s, i + 1, x);
         let m = number32(s, q);
-        if s.len() < m.end {
-            return Listed { len: n, end: m.end };
-        }
-        put32(&mut *out, n, m.value);
-        n += 1;
-        i = m.end;
-    }
-    Listed { len: n, end: i }
-}
-
-// An `x` and a numeral, again and again.
-fn read_xs32(s: &[u8], at: usize, out: &mut [i32]) -> Listed
-    requires { ⌜ at ≤ length (now s) ⌝ }
-    ensures { λ r. ⌜ Told (now (s .entry)) at (mapped (pushes (row (now (out .entry)) 1)) (xs32 (drop at (now (s .entry))))) (row (now (out .exit)) (r .len)) (r .end) ⌝ }
-{
-    let mut n = 1;
-    let mut i = at;
-    while i < s.len() {
-        if s[i] != 120 {
-            return Listed { len: n, end: i };
-        }
-        let m = number32(s, i + 1);
         if s.len() < m.end {
             return Listed { len: n, end: m.end };
         }
@@ -97,7 +76,7 @@ fn read_commas64(s: &[u8], at: usize, out: &mut [i64]) -> Listed
         if s[i] != 44 {
             return Listed { len: n, end: i };
         }
-        let q = space(s, i + 1);
+        let q = space(s, i + 1, false);
         let m = read_dim(s, q);
         if s.len() < m.end {
             return Listed { len: n, end: m.end };
@@ -160,20 +139,6 @@ pub(crate) fn read_dims(s: &[u8], at: usize, out: &mut [i64]) -> Listed
     Listed { len: n, end: i }
 }
 
-// What follows the first entry: by commas, or, where it may, by `x`.
-fn read_tail32(s: &[u8], at: usize, x: bool, out: &mut [i32]) -> Listed
-    requires { ⌜ at ≤ length (now s) ⌝ }
-    ensures { λ r. ⌜ Told (now (s .entry)) at (mapped (pushes (row (now (out .entry)) 1)) (tail32 x (drop at (now (s .entry))))) (row (now (out .exit)) (r .len)) (r .end) ⌝ }
-{
-    if !x {
-        return read_commas32(s, at, out);
-    }
-    if peek(s, at) == 120 {
-        return read_xs32(s, at, out);
-    }
-    read_commas32(s, at, out)
-}
-
 // At least one entry, parted by commas or, where it may, by `x`.
 pub(crate) fn read_list32(s: &[u8], from: usize, x: bool, out: &mut [i32]) -> Listed
     requires { ⌜ place (now s) from ≤ length (now s) ⌝ }
@@ -188,7 +153,9 @@ pub(crate) fn read_list32(s: &[u8], from: usize, x: bool, out: &mut [i32]) -> Li
         return Listed { len: 0, end: n.end };
     }
     put32(&mut *out, 0, n.value);
-    read_tail32(s, n.end, x, out)
+    // what follows: by commas, or, where it may, by `x`
+    let by_x = x & (peek(s, n.end) == 120);
+    read_parts32(s, n.end, by_x, out)
 }
 
 // At least one dimension, parted by commas.

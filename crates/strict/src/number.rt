@@ -212,11 +212,14 @@ pub(crate) fn read_dim(s: &[u8], at: usize) -> Num64
     number64(s, at)
 }
 
-// One space, or none.
-pub(crate) fn space(s: &[u8], at: usize) -> usize
+// One space, or none; none behind an `x`.
+pub(crate) fn space(s: &[u8], at: usize, x: bool) -> usize
     requires { ⌜ at ≤ length (now s) ⌝ }
-    ensures { λ r. ⌜ Spaced (now (s .entry)) at r ⌝ }
+    ensures { λ r. ⌜ Spaced x (now (s .entry)) at r ⌝ }
 {
+    if x {
+        return at;
+    }
     if s.len() <= at {
         return at;
     }

@@ -1,26 +1,21 @@
--- `read_dims` meets its contract: the list from the start is what was read, then the list from here; by the laws of Listing.
+-- `read_dims` meets its contract: read up to here, and the list from here on; by the laws of Listing.
 use Rattle.strict.proofs.Listing as L
 use Rattle.strict.proofs.Items as I
-use Rattle.strict.proofs.Cursors as H
-use Rattle.strict.specs.Lists.{Row, row, pushed, pushes}
+use Rattle.strict.specs.Lists.{row}
 use Rattle.strict.specs.Rows.{dims64}
-use Rattle.grammar.specs.Join.{mapped}
-use Rattle.grammar.specs.Piece.{member}
-use Rattle.grammar.specs.Several.{figs?}
 use borrow.Author.Tests.{not-true, not-false}
-use mathlib.Core.Bool.{false}
 use mir.Syntax.{w64}
 use mir.Val.{toZ, ofZ}
-use lib.ListN.{drop, length}
-use Prim.Native.Nat.{_+_, _-_, _≤_, _<_}
-use mathlib.Core.Path.{_≡_, refl, sym, ap, _∙_}
+use lib.ListN.{length}
+use Prim.Native.Nat.{_-_, _≤_, _<_}
+use mathlib.Core.Path.{_≡_, refl, sym, _∙_}
 use native.Mathlib.Omega.{arith}
 use borrow.Author.Needs.{needs}
 use Rattle.strict.proofs.list.read_dims.Statement.{statement}
 use Rattle.strict.proofs.list.read_dims.Tie as tie
 
 abbrev Inv-loop : tie.InvT-loop
-Inv-loop s at out₀ n₀ i₀ out n i = (i ≤ length s) × (at ≤ i) × (n ≤ i + 1) × (length out ≡ length out₀) × (mapped (pushes (row out₀ 0)) (dims64 (drop at s)) ≡ mapped (pushes (row out n)) (dims64 (drop i s)))
+Inv-loop s at out₀ n₀ i₀ out n i = L.Reading dims64 s at (row out₀ 0) (length out₀) out n i
 
 abbrev μ-loop : tie.MeasureT-loop
 μ-loop s at out₀ n₀ i₀ out n i = length s - i
@@ -31,23 +26,17 @@ read-dims-spec =
     (tie.spec
     Inv-loop
     μ-loop
-    (λ c. (search needs, search needs, search needs, refl, refl))
+    (λ c. record { inside = search needs; onward = search needs; few = search needs; kept = refl; same = refl })
     (λ c. search needs)
     (λ c κs. search needs)
-    (λ c. c .before .before .before .before .loop .inv .3)
-    (λ c. let l = c .before .before .before .before .loop in let a = c .before .before .before .before .before .before .args in let s = a .s .now in H.past s (a .at) (mapped (pushes (row (a .out .now) 0)) (dims64 (drop (a .at) (a .s .now)))) (row (l .out) (l .n)) (l .i) (search needs) (search needs) (l .inv .4 ∙ L.stop dims64 s (l .i) (row (l .out) (l .n)) (L.at-off dims64 s (l .i) (λ z. member z figs? ≡ false) I.dims64-off (search needs) (sym (c .before .starts .ensures) ∙ not-true _ (c .if1 .taken)))))
+    (λ c. c .before .before .before .before .loop .inv .kept)
+    (λ c. L.stops I.dims64-are (c .before .before .before .before .loop .inv) (search needs) (sym (c .before .starts .ensures) ∙ not-true _ (c .if1 .taken)))
     (λ c κs. search needs)
-    (λ c. c .before .before .before .before .before .before .before .loop .inv .3)
-    (λ c. let l = c .before .before .before .before .before .before .before .loop in let a = c .before .before .before .before .before .before .before .before .before .args in let s = a .s .now in let nu = c .before .before .read-dim-x in let v = nu .result .value in let e = nu .result .end in let j = nu .ensures .inside in let o = nu .ensures .onward in record { same = l .inv .4 ∙ L.item-off dims64 s (l .i) (row (l .out) (l .n)) _ v (row (l .out) (l .n)) e (search needs) (I.dims64-at s (l .i) (search needs) (sym (c .before .before .before .before .starts .ensures) ∙ not-false _ (c .before .before .before .if1 .left))) (nu .ensures .same); inside = j; onward = omega arith })
+    (λ c. c .before .before .before .before .before .before .before .loop .inv .kept)
+    (λ c. L.sticks I.dims64-are (c .before .before .before .before .before .before .before .loop .inv) (search needs) (sym (c .before .before .before .before .starts .ensures) ∙ not-false _ (c .before .before .before .if1 .left)) (c .before .before .read-dim-x .ensures) (search needs))
     (λ c κs. search needs)
-    (λ c. let l = c .before .before .before .before .before .before .before .before .before .before .before .loop in let a = c .before .before .before .before .before .before .before .before .before .before .before .before .before .args in let s = a .s .now in let x = l .inv .2 in search needs)
-    (λ c. let l = c .before .before .before .before .before .before .before .before .before .before .before .loop in let a = c .before .before .before .before .before .before .before .before .before .before .before .before .before .args in let s = a .s .now in let nu = c .before .before .before .before .before .before .read-dim-x in let v = nu .result .value in let e = nu .result .end in let j = nu .ensures .inside in let o = nu .ensures .onward in let h : e ≤ length s = search needs in let p = H.place-past s e h in let y : l .i < e = I.dims64-less s (l .i) e v (search needs) h (nu .ensures .same ∙ H.valued-past s v e h) in omega arith)
-    (λ c. let l = c .before .before .before .before .before .before .before .before .before .before .before .loop in let a = c .before .before .before .before .before .before .before .before .before .before .before .before .before .args in let s = a .s .now in let nu = c .before .before .before .before .before .before .read-dim-x in let v = nu .result .value in let e = nu .result .end in let j = nu .ensures .inside in let o = nu .ensures .onward in let z : toZ w64 (ofZ w64 v) ≡ v = search needs in let h : e ≤ length s = search needs in let p = H.place-past s e h in let y : l .i < e = I.dims64-less s (l .i) e v (search needs) h (nu .ensures .same ∙ H.valued-past s v e h) in let t : row (c .before .put64 .last .0) (l .n + 1) ≡ pushed (row (l .out) (l .n)) v = L.stored (l .out) (l .n) (c .before .put64 .ensures) z in (
-      search needs,
-      omega arith,
-      omega arith,
-      L.kept (l .out) (l .n) (toZ w64 (ofZ w64 v)) (c .before .put64 .ensures) ∙ l .inv .3,
-      l .inv .4 ∙ L.item-on dims64 s (l .i) (row (l .out) (l .n)) _ v e h (I.dims64-at s (l .i) (search needs) (sym (c .before .before .before .before .before .before .before .before .starts .ensures) ∙ not-false _ (c .before .before .before .before .before .before .before .if1 .left))) (nu .ensures .same) ∙ ap (λ (x : Row). mapped (pushes x) (dims64 (drop e s))) (sym t),
-    ))
-    (λ c. c .before .loop .inv .3)
-    (λ c. let l = c .before .loop in let a = c .before .before .before .args in let s = a .s .now in H.past s (a .at) (mapped (pushes (row (a .out .now) 0)) (dims64 (drop (a .at) (a .s .now)))) (row (l .out) (l .n)) (l .i) (search needs) (search needs) (l .inv .4 ∙ L.stop dims64 s (l .i) (row (l .out) (l .n)) (L.at-end dims64 s (l .i) I.dims64-nil (search needs)))))
+    (λ c. let l = c .before .before .before .before .before .before .before .before .before .before .before .loop in let x = l .inv .few in search needs)
+    (λ c. let l = c .before .before .before .before .before .before .before .before .before .before .before .loop in let e = c .before .before .before .before .before .before .read-dim-x .result .end in let q = L.longer I.dims64-are (l .inv) (search needs) (sym (c .before .before .before .before .before .before .before .before .starts .ensures) ∙ not-false _ (c .before .before .before .before .before .before .before .if1 .left)) (c .before .before .before .before .before .before .read-dim-x .ensures) (search needs) in omega arith)
+    (λ c. let l = c .before .before .before .before .before .before .before .before .before .before .before .loop in let v = c .before .before .before .before .before .before .read-dim-x .result .value in let z : toZ w64 (ofZ w64 v) ≡ v = search needs in L.goes-on I.dims64-are (l .inv) (search needs) (sym (c .before .before .before .before .before .before .before .before .starts .ensures) ∙ not-false _ (c .before .before .before .before .before .before .before .if1 .left)) (c .before .before .before .before .before .before .read-dim-x .ensures) (search needs) (c .before .put64 .ensures) z)
+    (λ c. c .before .loop .inv .kept)
+    (λ c. L.ends I.dims64-are (c .before .loop .inv) (search needs)))
