@@ -2,7 +2,7 @@
 use Prim.Native.Nat.{ℕ}
 use mathlib.Core.Bool.{Bool, true, false, cond}
 use mathlib.Core.List.{List, [], _∷_}
-use mathlib.Core.Path.{_≡_, refl, subst, sym, ap, _∙_}
+use mathlib.Core.Path.{_≡_, refl, subst, sym, _∙_}
 use lib.Dec.{ltb}
 use lib.IntN.{ℤ, pos}
 use Rattle.lexis.specs.Text.{bytes}
@@ -10,14 +10,12 @@ use Rattle.meaning.specs.declared.Kind.{Kind}
 use Rattle.meaning.specs.declared.Kind.the-variants as K
 use Rattle.meaning.specs.declared.Padding.{Padding}
 use Rattle.meaning.specs.declared.Padding.the-variants as P
-use Rattle.meaning.specs.Strict.{nth, paddings}
 use Rattle.meaning.specs.Meant.{Any}
 use Rattle.grammar.specs.Piece.{Answer, got, stuck, Piece}
 use Rattle.grammar.specs.Join.{mapped, after}
 use Rattle.grammar.specs.Until.{Ended}
 use Rattle.grammar.specs.Table.{pick, _↝_}
 use Rattle.grammar.specs.Spelt.{listed, two, in-two, quiet}
-use Rattle.grammar.specs.Several.{num32}
 use Rattle.grammar.specs.Pair.{chosen}
 use Rattle.grammar.specs.Body as B
 use Rattle.grammar.specs.Sights as G

@@ -1,20 +1,19 @@
 -- The code's reader of a whole strict form walks together with the grammar's: by the number of the first word.
 use Prim.Native.Nat.{ℕ}
 use mathlib.Core.Bool.{Bool, true, false, cond}
-use mathlib.Core.List.{List, [], _∷_, _++_}
-use mathlib.Core.Path.{_≡_, refl, subst, sym, ap, _∙_}
+use mathlib.Core.List.{List, []}
+use mathlib.Core.Path.{_≡_, refl, subst, sym, ap}
 use lib.Dec.{ltb}
-use lib.IntN.{ℤ, pos}
+use lib.IntN.{pos}
 use Rattle.lexis.specs.Text.{bytes}
 use Rattle.scalars.specs.declared.scalar.Scalar.the-variants.{I1}
 use Rattle.meaning.specs.declared.Kind.the-variants as K
 use Rattle.meaning.specs.declared.Padding.the-variants as P
 use Rattle.meaning.specs.Meant.{Any, any}
-use Rattle.grammar.specs.Piece.{Answer, got, stuck}
-use Rattle.grammar.specs.Join.{mapped, after}
+use Rattle.grammar.specs.Piece.{got}
+use Rattle.grammar.specs.Join.{mapped}
 use Rattle.grammar.specs.Elements as E
 use Rattle.grammar.specs.Body as B
-use Rattle.grammar.specs.Insides as N
 use Rattle.grammar.specs.Head as H
 use Rattle.grammar.specs.Whole as G
 use Rattle.strict.specs.Words.{choose}

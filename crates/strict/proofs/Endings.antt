@@ -1,19 +1,19 @@
 -- Each list of the grammar, with its end, is the code's list, then the end. By the equations of the items.
 use Prim.Native.Nat.{ℕ, _+_, _^_}
 use mathlib.Core.Bool.{Bool, true, false, cond, _||_}
-use mathlib.Core.List.{List, [], _∷_, _++_}
+use mathlib.Core.List.{List, [], _∷_}
 use mathlib.Core.Path.{_≡_, refl, subst, sym, ap, _∙_}
 use lib.Dec.{T, eqb, eqb→eq}
 use lib.IntN.{ℤ}
 use Rattle.lexis.specs.Text.{bytes}
-use Rattle.meaning.specs.Decimal.{decimal, in32, in64, dim, size}
+use Rattle.meaning.specs.Decimal.{dim}
 use Rattle.grammar.specs.Piece.{Answer, got, stuck, apart, Piece}
 use Rattle.grammar.specs.Join.{mapped, after, fork}
 use Rattle.grammar.specs.Until.{Ended, first, until-read}
-use Rattle.grammar.specs.Number.{ten, digits-after}
-use Rattle.grammar.specs.Several.{num32, dim64, item, x32, same}
+use Rattle.grammar.specs.Number.{ten}
+use Rattle.grammar.specs.Several.{num32, dim64, x32}
 use Rattle.strict.specs.Cursor.{numeral, dimension}
-use Rattle.strict.specs.Rows.{more, rows, commas32, xs32, parts32, commas64, tail32, list32, list64}
+use Rattle.strict.specs.Rows.{more, commas32, xs32, parts32, commas64, tail32, list32, list64}
 use Rattle.strict.proofs.Rows as R
 use Rattle.strict.proofs.Items.{item32, item64, num-is, dim-is, parts32-are}
 use Rattle.strict.proofs.Together.{closing, close}

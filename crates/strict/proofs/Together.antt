@@ -1,13 +1,12 @@
 -- Two readers that walk together: stuck at the same place, or past the same text with values that belong together.
 -- One law for each way in which readers are put together; lists with their end are `ended`.
 use Prim.Native.Nat.{ℕ}
-use mathlib.Core.List.{List, [], _∷_}
-use mathlib.Core.Path.{_≡_, refl, subst, sym, ap, _∙_}
+use mathlib.Core.List.{List}
+use mathlib.Core.Path.{_≡_, refl, subst, sym, ap}
 use lib.IntN.{ℤ}
 use Rattle.grammar.specs.Piece.{Answer, got, stuck}
 use Rattle.grammar.specs.Join.{mapped, after}
 use Rattle.grammar.specs.Until.{Ended}
-use Rattle.strict.specs.Words.{choose}
 use Rattle.strict.specs.Lists.{Row, nothing, pushes}
 
 pub data Same {A B : Type 0} (R : A → B → Type 0) : Answer A → Answer B → Type 0 where

@@ -278,32 +278,36 @@ via-next s from u es {k} {d} h t r = let o = t .onward in let p = r .onward in
 abbrev keep : Bool → List ℕ → ℕ → List (Entry ℕ)
 keep k u n = cond k ((u ↝ n) ∷ []) []
 
-pair : (u v w t : List ℕ) → pick t (both u v w) ≡ after (λ (k : ℕ) r. pick r ((v ↝ 0) ∷ (w ↝ 1) ∷ [])) (pick t ((u ↝ 0) ∷ []))
-pair [] v w [] = refl
-pair [] v w (c ∷ t) = refl
-pair (x ∷ u) v w [] = refl
-pair (x ∷ u) v w (c ∷ t) = by (eqb x c) (pair u v w t)
-  where
-    f : ℕ → List ℕ → Answer ℕ
-    f k r = pick r ((v ↝ 0) ∷ (w ↝ 1) ∷ [])
+module _ (v : List ℕ) (j : ℕ) (w : List ℕ) (l : ℕ) where
+  abbrev fork-read : ℕ → List ℕ → Answer ℕ
+  fork-read k r = pick r ((v ↝ j) ∷ (w ↝ l) ∷ [])
 
-    step : List (Entry ℕ) → Answer ℕ
-    step q = elim q [ [] ↦ stuck (c ∷ t) | e ∷ fs ↦ pick t (e ∷ fs) ]
+  pair : (u t : List ℕ) → pick t (both u v j w l) ≡ after fork-read (pick t ((u ↝ 0) ∷ []))
+  pair [] [] = refl
+  pair [] (c ∷ t) = refl
+  pair (x ∷ u) [] = refl
+  pair (x ∷ u) (c ∷ t) = by (eqb x c) (pair u t)
+    where
+      step : List (Entry ℕ) → Answer ℕ
+      step q = elim q [ [] ↦ stuck (c ∷ t) | e ∷ fs ↦ pick t (e ∷ fs) ]
 
-    by : (k : Bool) → pick t (both u v w) ≡ after f (pick t ((u ↝ 0) ∷ [])) → step (keep k (u ++ v) 0 ++ (keep k (u ++ w) 1 ++ [])) ≡ after f (step (keep k u 0 ++ []))
-    by true ih = ih
-    by false ih = refl
+      by : (k : Bool) → pick t (both u v j w l) ≡ after fork-read (pick t ((u ↝ 0) ∷ [])) → step (keep k (u ++ v) j ++ (keep k (u ++ w) l ++ [])) ≡ after fork-read (step (keep k u 0 ++ []))
+      by true ih = ih
+      by false ih = refl
 
-pub two : (s : List ℕ) (from : ℕ) (u v w : List ℕ) {k d a e : ℕ} → Told s (place s from) (next s (among ((u ↝ 0) ∷ [])) from) k d →
-    Told s (place s d) (next s (among ((v ↝ 0) ∷ (w ↝ 1) ∷ [])) d) a e → Told s (place s from) (next s (among (both u v w)) from) a e
-unfolding among
-two s from u v w {k} {d} t r = let o = t .onward in let p = r .onward in
-    record {
-      same = C.next-same s (among (both u v w)) (λ x. after (λ (n : ℕ) y. among ((v ↝ 0) ∷ (w ↝ 1) ∷ []) y) (among ((u ↝ 0) ∷ []) x)) from (pair u v w (drop from s))
-          ∙ H.chain s (among ((u ↝ 0) ∷ [])) (λ (n : ℕ) y. among ((v ↝ 0) ∷ (w ↝ 1) ∷ []) y) k from d (t .same) ∙ r .same;
-      inside = r .inside;
-      onward = omega arith;
-    }
+  module _ (s : List ℕ) (from : ℕ) (u : List ℕ) {k d a e : ℕ} where
+    pub two : Told s (place s from) (next s (among ((u ↝ 0) ∷ [])) from) k d → Told s (place s d) (next s (among ((v ↝ j) ∷ (w ↝ l) ∷ [])) d) a e → Told s (place s from) (next s (among (both u v j w l)) from) a e
+    unfolding among
+    two t r = let o = t .onward in let p = r .onward in
+        record {
+          same = C.next-same s (among (both u v j w l)) (λ x. after fork-read (among ((u ↝ 0) ∷ []) x)) from (pair u (drop from s)) ∙ H.chain s (among ((u ↝ 0) ∷ [])) fork-read k from d (t .same) ∙ r .same;
+          inside = r .inside;
+          onward = omega arith;
+        }
+
+    -- at a place of the text
+    pub two-at : from ≤ length s → Told s from (among ((u ↝ 0) ∷ []) (drop from s)) k d → Told s (place s d) (next s (among ((v ↝ j) ∷ (w ↝ l) ∷ [])) d) a e → Told s from (among (both u v j w l) (drop from s)) a e
+    two-at h t r = C.begun s (among (both u v j w l)) from h (two (C.begin s (among ((u ↝ 0) ∷ [])) from h t) r)
 
 -- handed on where a part before it is stuck
 pub idle : (s : List ℕ) (g : List ℕ → Answer ℕ) (from : ℕ) (r : Picked) → length s < from → place s from ≤ length s → r ≡ ended 0 from → Told s (place s from) (next s g from) (r .word) (r .end)

@@ -1,7 +1,7 @@
 -- What stands in a pointer, a tile and a tensor view, with what ends it, as the code reads it: words by their numbers, lists as rows.
-use Prim.Native.Nat.{ℕ}
+use Prim.Native.Nat.{ℕ, _+_}
 use mathlib.Core.Bool.{Bool, true, false, cond}
-use mathlib.Core.List.{List, [], _∷_}
+use mathlib.Core.List.{List, [], _∷_, _++_}
 use lib.Dec.{eqb, ltb}
 use lib.IntN.{ℤ}
 use Rattle.lexis.specs.Text.{bytes}
@@ -23,6 +23,10 @@ names = bytes "i1|i4|i8|i16|i32|i64|f16|bf16|f32|tf32|f64|f8E4M3FN|f8e4m3fn|f8E5
 -- what is left of the names after some bytes
 abbrev pub named : List ℕ → List (Entry ℕ)
 named u = advances u (entries names)
+
+-- the four after `f8E` or `f8e`, in capitals or in small letters; k tells which
+abbrev pub eights : List ℕ → List ℕ → List ℕ → List ℕ → ℕ → List (Entry ℕ)
+eights w m v x k = (52 ∷ w ↝ 11 + k) ∷ (53 ∷ m ++ bytes "2" ↝ 13 + k) ∷ (56 ∷ x ↝ 15 + k) ∷ (53 ∷ m ++ v ↝ 19 + k) ∷ []
 
 abbrev pub kerns : List ℕ
 kerns = bytes "i1|i4|i8|i16|i32|i64|f16|bf16|f32|tf32|f64|f8E4M3FN|f8e4m3fn|f8E5M2|f8e5m2|f8E8M0FNU|f8e8m0fnu|f4E2M1FN|f4e2m1fn|f8E5M3FNU|f8e5m3fnu|bool|ptr<|!cuda_tile.ptr<|"

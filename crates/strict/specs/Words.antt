@@ -42,8 +42,8 @@ differ (x ∷ v) [] = false
 differ (x ∷ v) (y ∷ w) = not (eqb x y)
 
 -- both words of a table, which begin alike
-abbrev pub both : List ℕ → List ℕ → List ℕ → List (Entry ℕ)
-both u v w = (u ++ v ↝ 0) ∷ (u ++ w ↝ 1) ∷ []
+abbrev pub both : List ℕ → List ℕ → ℕ → List ℕ → ℕ → List (Entry ℕ)
+both u v j w k = (u ++ v ↝ j) ∷ (u ++ w ↝ k) ∷ []
 
 abbrev pub ended : ℕ → ℕ → Picked
 ended k e = record { word = k; end = e }

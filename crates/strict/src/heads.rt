@@ -9,10 +9,9 @@ use super::words::none;
 use super::words::peek;
 ghost use lib.ListN.{drop, length};
 ghost use Prim.Native.Nat.{_≤_};
-ghost use Rattle.lexis.specs.Text.{bytes};
 ghost use Rattle.grammar.specs.Table.{advance};
-ghost use Rattle.strict.specs.Cursor.{Told, place};
-ghost use Rattle.strict.specs.Words.{next, among, choose, entries};
+ghost use Rattle.strict.specs.Cursor.{Told};
+ghost use Rattle.strict.specs.Words.{among, choose, entries};
 ghost use Rattle.strict.specs.Whole.{heads, kinds};
 
 // After `t`: a token, a tile, a tensor view.

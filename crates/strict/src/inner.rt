@@ -14,7 +14,6 @@ ghost use lib.Dec.{T};
 ghost use lib.ListN.{length};
 ghost use Rattle.meaning.specs.Found.{padded};
 ghost use Prim.Native.Nat.{_≤_};
-ghost use Rattle.lexis.specs.Text.{bytes};
 ghost use Rattle.strict.specs.Cursor.{Told, place};
 ghost use Rattle.strict.specs.Words.{next, differ};
 ghost use Rattle.strict.specs.Lists.{row};

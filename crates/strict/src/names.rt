@@ -5,12 +5,13 @@ use super::words::fork;
 use super::words::found;
 use super::words::none;
 use super::words::peek;
+ghost use lib.Dec.{T};
 ghost use lib.ListN.{drop, length};
 ghost use Prim.Native.Nat.{_≤_};
 ghost use Rattle.lexis.specs.Text.{bytes};
 ghost use Rattle.strict.specs.Cursor.{Told, place};
-ghost use Rattle.strict.specs.Words.{next, among, choose, entries};
-ghost use Rattle.strict.specs.Inner.{names, named, kerns};
+ghost use Rattle.strict.specs.Words.{next, among, choose, entries, differ};
+ghost use Rattle.strict.specs.Inner.{names, named, eights, kerns};
 
 // After `i`.
 pub(crate) fn name_i(s: &[u8], at: usize) -> Picked
@@ -38,34 +39,20 @@ fn fork_i1(s: &[u8], at: usize) -> Picked
     found(0, at)
 }
 
-// After `f8E`.
-fn name_f8_upper(s: &[u8], at: usize) -> Picked
+// After `f8E` or `f8e`: `4` and `w`, `5` and `m` and one of two, `8` and `x`.
+fn name_f8_by(s: &[u8], at: usize, w: &[u8], m: &[u8], v: &[u8], x: &[u8], k: usize) -> Picked
     requires { ⌜ at ≤ length (now s) ⌝ }
-    ensures { λ r. ⌜ Told (now (s .entry)) at (among (named (bytes "f8E")) (drop at (now (s .entry)))) (r .word) (r .end) ⌝ }
+    requires { ⌜ T (differ (bytes "2") (now v)) ⌝ }
+    requires { ⌜ k ≤ 1 ⌝ }
+    ensures { λ r. ⌜ Told (now (s .entry)) at (among (eights (now (w .entry)) (now (m .entry)) (now (v .entry)) (now (x .entry)) k) (drop at (now (s .entry)))) (r .word) (r .end) ⌝ }
 {
     match peek(s, at) {
-        52 => fit(s, at + 1, b"M3FN", 11),
+        52 => fit(s, at + 1, w, 11 + k),
         53 => {
-            let m = fit(s, at + 1, b"M", 0);
-            fork(s, m.end, b"2", 13, b"3FNU", 19)
+            let p = fit(s, at + 1, m, 0);
+            fork(s, p.end, b"2", 13 + k, v, 19 + k)
         }
-        56 => fit(s, at + 1, b"M0FNU", 15),
-        _ => none(s, at),
-    }
-}
-
-// After `f8e`.
-fn name_f8_lower(s: &[u8], at: usize) -> Picked
-    requires { ⌜ at ≤ length (now s) ⌝ }
-    ensures { λ r. ⌜ Told (now (s .entry)) at (among (named (bytes "f8e")) (drop at (now (s .entry)))) (r .word) (r .end) ⌝ }
-{
-    match peek(s, at) {
-        52 => fit(s, at + 1, b"m3fn", 12),
-        53 => {
-            let m = fit(s, at + 1, b"m", 0);
-            fork(s, m.end, b"2", 14, b"3fnu", 20)
-        }
-        56 => fit(s, at + 1, b"m0fnu", 16),
+        56 => fit(s, at + 1, x, 15 + k),
         _ => none(s, at),
     }
 }
@@ -76,8 +63,8 @@ fn name_f8(s: &[u8], at: usize) -> Picked
     ensures { λ r. ⌜ Told (now (s .entry)) at (among (named (bytes "f8")) (drop at (now (s .entry)))) (r .word) (r .end) ⌝ }
 {
     match peek(s, at) {
-        69 => name_f8_upper(s, at + 1),
-        101 => name_f8_lower(s, at + 1),
+        69 => name_f8_by(s, at + 1, b"M3FN", b"M", b"3FNU", b"M0FNU", 0),
+        101 => name_f8_by(s, at + 1, b"m3fn", b"m", b"3fnu", b"m0fnu", 1),
         _ => none(s, at),
     }
 }

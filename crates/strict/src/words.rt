@@ -1,7 +1,7 @@
 // Words at a place: one word, or one of two that differ in their first byte.
 use super::number::stuck;
 ghost use mathlib.Core.Path.{_≡_};
-ghost use mathlib.Core.List.{[], _∷_, _++_};
+ghost use mathlib.Core.List.{[], _∷_};
 ghost use lib.Dec.{T};
 ghost use lib.ListN.{drop, length, getD};
 ghost use Prim.Native.Nat.{_≤_};
@@ -93,7 +93,7 @@ pub(crate) fn fork(s: &[u8], from: usize, v: &[u8], j: usize, w: &[u8], k: usize
 pub(crate) fn read_two(s: &[u8], from: usize, lead: &[u8], v: &[u8], w: &[u8]) -> Picked
     requires { ⌜ place (now s) from ≤ length (now s) ⌝ }
     requires { ⌜ T (differ (now v) (now w)) ⌝ }
-    ensures { λ r. ⌜ Told (now (s .entry)) (place (now (s .entry)) from) (next (now (s .entry)) (among (both (now (lead .entry)) (now (v .entry)) (now (w .entry)))) from) (r .word) (r .end) ⌝ }
+    ensures { λ r. ⌜ Told (now (s .entry)) (place (now (s .entry)) from) (next (now (s .entry)) (among (both (now (lead .entry)) (now (v .entry)) 0 (now (w .entry)) 1)) from) (r .word) (r .end) ⌝ }
 {
     let p = read_word(s, from, lead);
     fork(s, p.end, v, 0, w, 1)

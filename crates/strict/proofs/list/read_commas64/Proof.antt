@@ -7,8 +7,8 @@ use Rattle.strict.specs.Rows.{commas64}
 use mir.Syntax.{w64}
 use mir.Val.{toZ, ofZ}
 use lib.ListN.{length}
-use Prim.Native.Nat.{_-_, _≤_, _<_}
-use mathlib.Core.Path.{_≡_, refl, sym, _∙_}
+use Prim.Native.Nat.{_-_}
+use mathlib.Core.Path.{_≡_, refl}
 use native.Mathlib.Omega.{arith}
 use borrow.Author.Needs.{needs}
 use Rattle.strict.proofs.list.read_commas64.Statement.{statement}

@@ -9,7 +9,7 @@ use mathlib.Core.Logic.{⊎-elim}
 use mir.Syntax.{w32}
 use mir.Val.{toZ, ofZ}
 use lib.ListN.{length}
-use Prim.Native.Nat.{_+_, _-_, _^_, _≤_, _<_}
+use Prim.Native.Nat.{_+_, _-_, _^_}
 use mathlib.Core.Path.{_≡_, refl, sym, ap, _∙_}
 use native.Mathlib.Omega.{arith}
 use borrow.Author.Needs.{needs}

@@ -9,4 +9,4 @@ read-two-spec =
     (tie.spec
     (λ c κs. c .before .before .before .before .pre .0)
     (λ c κs. (c .read-word .ensures .inside, c .before .before .before .before .before .pre .1))
-    (λ c. let a = c .before .before .before .before .before .before .args in L.two (a .s .now) (a .from) (a .lead .now) (a .v .now) (a .w .now) (c .before .read-word .ensures) (c .fork .ensures)))
+    (λ c. let a = c .before .before .before .before .before .before .args in L.two (a .v .now) 0 (a .w .now) 1 (a .s .now) (a .from) (a .lead .now) (c .before .read-word .ensures) (c .fork .ensures)))
