@@ -6,6 +6,7 @@ use mathlib.Core.Logic.{_⊎_, inl, inr}
 use mathlib.Core.Path.{_≡_, refl, subst, sym, ap, _∙_}
 use lib.Dec.{T, ltb→lt}
 use lib.IntN.{ℤ}
+use lib.ListN.{take}
 use Rattle.lexis.specs.Text.{bytes}
 use Rattle.meaning.specs.Strict as S
 use Rattle.scalars.specs.declared.scalar.Scalar.{Scalar}
@@ -14,7 +15,7 @@ use Rattle.meaning.specs.Strict.{_⊕_, nth, Name, word, words, scalars, scalar
 use Rattle.grammar.specs.Piece.{apart, Piece}
 use Rattle.grammar.specs.Join.{map, bind, restate}
 use Rattle.grammar.specs.Until.{Ended}
-use Rattle.grammar.specs.Table.{table, _↝_, Among, sound-table}
+use Rattle.grammar.specs.Table.{Entry, table, _↝_, Among, sound-table}
 use Rattle.grammar.specs.Spelt.{Spelt, always, listed, listed-to, listed-from, two, in-two, quiet, zipped, zipped-to, zipped-from, among-left, among-right, among-split}
 use Rattle.grammar.specs.Several.{figs?, Both, dims-then}
 
@@ -97,8 +98,19 @@ abbrev pub kernE : Kern → List ℕ
 kernE (plain s) = bytes "6"
 kernE point = []
 
+abbrev pub flatCore : Scalar → Core
+flatCore s = record { pointer = false; element = s; attribute = false }
+
+-- what ends a tile of scalars, and the first bytes of that
+abbrev pub flat-end : Scalar → List (Entry Core)
+flat-end s = (bytes ">" ↝ flatCore s) ∷ []
+
+abbrev pub firsts : List (Entry Core) → List ℕ
+firsts [] = []
+firsts (e ∷ es) = take 1 (e .word) ++ firsts es
+
 abbrev pub kernF : Kern → List ℕ
-kernF (plain s) = bytes ">"
+kernF (plain s) = firsts (flat-end s)
 kernF point = bytes "ibft"
 
 abbrev pub front : List ℕ → Bool → List ℕ
@@ -107,11 +119,8 @@ front w p = cuda p ⊕ w
 abbrev pub kern : Piece false (bytes "ibftp!") Kern kernE
 kern = table kernE (bytes "ibftp!") (zipped plain words scalars ++ listed (front (bytes "ptr<")) (λ p. point) two) tt
 
-abbrev pub flatCore : Scalar → Core
-flatCore s = record { pointer = false; element = s; attribute = false }
-
 abbrev pub kern-tail : (k : Kern) → Piece false (kernF k) Core quiet
-kern-tail (plain s) = table quiet (bytes ">") ((bytes ">" ↝ flatCore s) ∷ []) tt
+kern-tail (plain s) = table quiet (firsts (flat-end s)) (flat-end s) tt
 kern-tail point = pointee (bytes ">>") tt
 
 abbrev pub kern-sep : (k : Kern) → T (apart (kernF k) (kernE k))
