@@ -1,9 +1,10 @@
 -- The code's reader of a whole strict form walks together with the grammar's: by the number of the first word.
 use Prim.Native.Nat.{ℕ}
-use mathlib.Core.Bool.{Bool, true, false, cond}
+use native.Mathlib.Omega.{arith}
+use mathlib.Core.Bool.{Bool, true, false, cond, not, _&&_}
 use mathlib.Core.List.{List, []}
 use mathlib.Core.Path.{_≡_, refl, subst, sym, ap}
-use lib.Dec.{ltb}
+use lib.Dec.{T, ltb, ltb→lt, lt→ltb}
 use lib.IntN.{pos}
 use Rattle.lexis.specs.Text.{bytes}
 use Rattle.scalars.specs.declared.scalar.Scalar.the-variants.{I1}
@@ -13,19 +14,17 @@ use Rattle.meaning.specs.Meant.{Any, any}
 use Rattle.grammar.specs.Piece.{got}
 use Rattle.grammar.specs.Join.{mapped}
 use Rattle.grammar.specs.Elements as E
-use Rattle.grammar.specs.Body as B
 use Rattle.grammar.specs.Head as H
 use Rattle.grammar.specs.Whole as G
 use Rattle.strict.specs.Words.{choose}
 use Rattle.strict.specs.Lists.{Row, nothing}
 use Rattle.strict.specs.Inner as I
-use Rattle.strict.specs.Views as W
 use Rattle.strict.specs.Whole as C
 use Rattle.strict.specs.Plain.{Plain, scalar, seen, said}
 use Rattle.strict.proofs.Picking.{choose-label}
 use Rattle.strict.proofs.Together.{Same, both, along, convey, told, label}
 use Rattle.strict.proofs.Bridge.{core-said, pointee-is, tile-is, tensor-is}
-use Rattle.strict.proofs.BridgeViews.{partition-is, gather-is, strided-is}
+use Rattle.strict.proofs.BridgeViews.{partition-view-is, gather-view-is, strided-view-is}
 
 abbrev pub Whole~ : Any → C.Entire → Type 0
 Whole~ a c = seen a ≡ said c
@@ -78,22 +77,23 @@ module _ (k : ℕ) (r : List ℕ) where
     padding = P.Absent;
   })
 
-  by : (s t p l v w g : Bool) → Same Whole~ (G.next (head-of s t p l v w g (H.scalar (scalar k))) .read r)
+  by : (s t p l v w g : Bool) → (T w → T g) → Same Whole~ (G.next (head-of s t p l v w g (H.scalar (scalar k))) .read r)
       (cond s (got (C.scalar-of k) r) (cond t (got C.token r) (cond p (mapped C.pointer-of (I.pointee I.close r)) (cond l (mapped C.tile-of (I.tile r)) (cond v (mapped C.tensor-of (I.tensor r))
-      (cond w (mapped (C.view-of K.Partition) (W.partition r)) (cond g (mapped (C.view-of K.GatherScatter) (W.gather r)) (mapped (C.view-of K.Strided) (W.strided r)))))))))
-  by true t p l v w g = both (any K.Scalar (scalar k) false false [] [] [] [] [] (pos 0) P.Absent) (C.scalar-of k) r refl
-  by false true p l v w g = both (any K.Token I1 false false [] [] [] [] [] (pos 0) P.Absent) C.token r refl
-  by false false true l v w g = pointer
-  by false false false true v w g = tile
-  by false false false false true w g = tensor
-  by false false false false false true g = convey B.id (C.view-of K.Partition) (partition-is r) (λ a c h. h)
-  by false false false false false false true = convey B.id (C.view-of K.GatherScatter) (gather-is r) (λ a c h. h)
-  by false false false false false false false = convey B.id (C.view-of K.Strided) (strided-is r) (λ a c h. h)
+      (C.view (C.kind-by w g) g (g && not w) r))))))
+  by true t p l v w g h = both (any K.Scalar (scalar k) false false [] [] [] [] [] (pos 0) P.Absent) (C.scalar-of k) r refl
+  by false true p l v w g h = both (any K.Token I1 false false [] [] [] [] [] (pos 0) P.Absent) C.token r refl
+  by false false true l v w g h = pointer
+  by false false false true v w g h = tile
+  by false false false false true w g h = tensor
+  by false false false false false true true h = partition-view-is r
+  by false false false false false true false h = absurd (h tt)
+  by false false false false false false true h = gather-view-is r
+  by false false false false false false false h = strided-view-is r
 
 together : (t : List ℕ) → Same Whole~ (G.read t) (C.whole t)
 unfolding C.whole
 together t = along (λ h. G.next h .read) C.from-head (label head-said (H.head-plain .read t) (choose C.heads t) (head-is t))
-    (λ h k r e. subst (λ (h : H.Head). Same Whole~ (G.next h .read r) (C.from-head k r)) (sym e) (by k r (ltb k 22) (ltb k 24) (ltb k 26) (ltb k 28) (ltb k 30) (ltb k 32) (ltb k 34)))
+    (λ h k r e. subst (λ (h : H.Head). Same Whole~ (G.next h .read r) (C.from-head k r)) (sym e) (by k r (ltb k 22) (ltb k 24) (ltb k 26) (ltb k 28) (ltb k 30) (ltb k 32) (ltb k 34) (λ t. lt→ltb k 34 (let p = ltb→lt k 32 t in omega arith))))
 
 -- THE BRIDGE: on every text the code's reading and the grammar's say the same
 pub whole-is : (t : List ℕ) → mapped seen (G.read t) ≡ mapped said (C.whole t)

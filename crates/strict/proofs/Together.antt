@@ -25,6 +25,10 @@ module _ {A B A′ B′ : Type 0} {R : A → B → Type 0} {S : A′ → B′ �
   convey f g (both a b r h) k = both (f a) (g b) r (k a b h)
   convey f g (neither r) k = neither r
 
+pub onto : {A B B′ : Type 0} {R : A → B → Type 0} {S : A → B′ → Type 0} (g : B → B′) {p : Answer A} {q : Answer B} → Same R p q → ((a : A) (b : B) → R a b → S a (g b)) → Same S p (mapped g q)
+onto g (both a b r h) k = both a (g b) r (k a b h)
+onto g (neither r) k = neither r
+
 -- both values in the same words
 pub told : {A B D : Type 0} {R : A → B → Type 0} (f : A → D) (g : B → D) {p : Answer A} {q : Answer B} → Same R p q → ((a : A) (b : B) → R a b → f a ≡ g b) → mapped f p ≡ mapped g q
 told f g (both a b r h) k = ap (λ z. got z r) (k a b h)

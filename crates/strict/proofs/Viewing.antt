@@ -5,6 +5,7 @@ use mathlib.Core.List.{List}
 use mathlib.Core.Path.{_≡_, refl}
 use lib.Dec.{ltb}
 use lib.IntN.{pos}
+use Rattle.grammar.specs.Piece.{got}
 use Rattle.grammar.specs.Join.{mapped, after}
 use Rattle.strict.specs.Words.{next, choose}
 use Rattle.strict.specs.Lists.{nothing}
@@ -29,9 +30,21 @@ module _ (s : List ℕ) (e : ℕ) where
   unfolding Y.mid
   mid-walk b h = next-no s b (choose Y.mids) (choose Y.walk-mids) e h
 
-  pub scene-is : (b : Bool) → next s (Y.scene b) e ≡ next s (λ t. after (λ l r. after (λ k x. mapped (Y.stage l) (Y.sight k x)) (Y.mid b r)) (Y.entries b t)) e
-  unfolding Y.scene
-  scene-is b = refl
+  pub walk-bare : (b : Bool) → b ≡ true → next s (Y.walking b) e ≡ next s (got nothing) e
+  unfolding Y.walking
+  walk-bare b h = next-yes s b (got nothing) (λ t. after (λ (k : ℕ) x. Y.entries false x) (choose Y.travels t)) e h
+
+  pub walk-on : (b : Bool) → b ≡ false → next s (Y.walking b) e ≡ next s (λ t. after (λ (k : ℕ) x. Y.entries false x) (choose Y.travels t)) e
+  unfolding Y.walking
+  walk-on b h = next-no s b (got nothing) (λ t. after (λ (k : ℕ) x. Y.entries false x) (choose Y.travels t)) e h
+
+  pub ends-sparse : (b : Bool) → b ≡ true → next s (Y.ending b) e ≡ next s (λ t. mapped (Y.closed nothing) (Y.sparse-part t)) e
+  unfolding Y.ending
+  ends-sparse b h = next-yes s b (λ t. mapped (Y.closed nothing) (Y.sparse-part t)) (λ t. mapped (λ m. Y.closed m (pos 0)) (Y.map-part t)) e h
+
+  pub ends-map : (b : Bool) → b ≡ false → next s (Y.ending b) e ≡ next s (λ t. mapped (λ m. Y.closed m (pos 0)) (Y.map-part t)) e
+  unfolding Y.ending
+  ends-map b h = next-no s b (λ t. mapped (Y.closed nothing) (Y.sparse-part t)) (λ t. mapped (λ m. Y.closed m (pos 0)) (Y.map-part t)) e h
 
   pub map-is : next s Y.map-part e ≡ next s (λ t. after Y.map-from (choose Y.maps t)) e
   unfolding Y.map-part
@@ -40,15 +53,3 @@ module _ (s : List ℕ) (e : ℕ) where
   pub sparse-is : next s Y.sparse-part e ≡ next s (λ t. after Y.sparse-from (choose Y.sparses t)) e
   unfolding Y.sparse-part
   sparse-is = refl
-
-  pub partition-is : next s Y.partition e ≡ next s (λ t. after (λ c r. mapped (λ m. Y.viewed (c .list) (c .sight) m nothing (pos 0)) (Y.map-part r)) (Y.scene true t)) e
-  unfolding Y.partition
-  partition-is = refl
-
-  pub gather-is : next s Y.gather e ≡ next s (λ t. after (λ c r. mapped (λ z. Y.viewed (c .list) (c .sight) nothing nothing z) (Y.sparse-part r)) (Y.scene true t)) e
-  unfolding Y.gather
-  gather-is = refl
-
-  pub strided-is : next s Y.strided e ≡ next s (λ t. after (λ l r. after (λ (k : ℕ) x. Y.walk-rest l x) (choose Y.travels r)) (Y.entries true t)) e
-  unfolding Y.strided
-  strided-is = refl

@@ -5,17 +5,15 @@ use mathlib.Core.List.{List, [], _∷_, _++_}
 use lib.Dec.{ltb}
 use lib.IntN.{ℤ, pos}
 use Rattle.lexis.specs.Text.{bytes}
-use Rattle.grammar.specs.Piece.{Answer}
+use Rattle.grammar.specs.Piece.{Answer, got}
 use Rattle.grammar.specs.Join.{mapped, after}
 use Rattle.strict.specs.Cursor.{numeral}
 use Rattle.grammar.specs.Table.{Entry, _↝_}
 use Rattle.strict.specs.Words.{choose}
 use Rattle.strict.specs.Rows.{list32}
-use Rattle.strict.specs.Lists.{Row, row, nothing, pushes}
+use Rattle.strict.specs.Lists.{Row, nothing, pushes}
 use Rattle.strict.specs.Inner.{Tensed, tensor, tensed}
 use Rattle.strict.specs.declared.view.Sight.{Sight}
-use Rattle.strict.specs.declared.view.Scene.{Scene}
-use Rattle.strict.specs.declared.view.View.{View}
 
 -- ── tables ──
 abbrev pub pads : List ℕ
@@ -68,25 +66,16 @@ sight k t = cond (ltb k 2) (after led (choose pads t)) (mapped (seen false 0) (t
 abbrev pub sighted : List ℤ → List ℤ → Sight → Seen
 sighted l m v = seen (v .padded) (v .pad) (tensed l m (v .tensor))
 
--- ── a list, and the tensor view ──
+-- ── the entries of the tile, and what stands behind them ──
 abbrev pub entries : Bool → List ℕ → Answer Row
 entries b t = mapped (pushes nothing) (list32 b t)
 
 unfoldable pub mid : Bool → List ℕ → Answer ℕ
 mid b t = cond b (choose mids t) (choose walk-mids t)
 
-pub record Staged : Type 0 where
-  pub list : Row
-  pub sight : Seen
-
-abbrev pub stage : Row → Seen → Staged
-stage l v = record { list = l; sight = v }
-
-unfoldable pub scene : Bool → List ℕ → Answer Staged
-scene b t = after (λ l r. after (λ k x. mapped (stage l) (sight k x)) (mid b r)) (entries b t)
-
-abbrev pub staged : List ℤ → List ℤ → List ℤ → Scene → Staged
-staged x l m v = stage (row x (v .len)) (sighted l m (v .sight))
+-- between the tile and that word: nothing, or, in a strided view, the traversal
+unfoldable pub walking : Bool → List ℕ → Answer Row
+walking bare t = cond bare (got nothing t) (after (λ (k : ℕ) x. entries false x) (choose travels t))
 
 -- ── the ends ──
 abbrev pub map-tail : Row → List ℕ → Answer Row
@@ -110,6 +99,17 @@ sparse-from k r = after sparse-tail (small r)
 unfoldable pub sparse-part : List ℕ → Answer ℤ
 sparse-part t = after sparse-from (choose sparses t)
 
+-- the map, or the sparse dimension
+pub record Closed : Type 0 where
+  pub map : Row
+  pub sparse : ℤ
+
+abbrev pub closed : Row → ℤ → Closed
+closed m z = record { map = m; sparse = z }
+
+unfoldable pub ending : Bool → List ℕ → Answer Closed
+ending sparse t = cond sparse (mapped (closed nothing) (sparse-part t)) (mapped (λ m. closed m (pos 0)) (map-part t))
+
 -- ── the views ──
 pub record Viewed : Type 0 where
   pub tile : Row
@@ -120,19 +120,3 @@ pub record Viewed : Type 0 where
 
 abbrev pub viewed : Row → Seen → Row → Row → ℤ → Viewed
 viewed t v m w z = record { tile = t; sight = v; map = m; walk = w; sparse = z }
-
-unfoldable pub partition : List ℕ → Answer Viewed
-partition t = after (λ c r. mapped (λ m. viewed (c .list) (c .sight) m nothing (pos 0)) (map-part r)) (scene true t)
-
-unfoldable pub gather : List ℕ → Answer Viewed
-gather t = after (λ c r. mapped (λ z. viewed (c .list) (c .sight) nothing nothing z) (sparse-part r)) (scene true t)
-
-abbrev pub walk-rest : Row → List ℕ → Answer Viewed
-walk-rest l t = after (λ c r. mapped (λ m. viewed l (c .sight) m (c .list) (pos 0)) (map-part r)) (scene false t)
-
-unfoldable pub strided : List ℕ → Answer Viewed
-strided t = after (λ l r. after (λ (k : ℕ) x. walk-rest l x) (choose travels r)) (entries true t)
-
--- with its shape, strides, tile, map and traversal
-abbrev pub shown : List ℤ → List ℤ → List ℤ → List ℤ → List ℤ → View → Viewed
-shown l m x y z v = viewed (row x (v .tile)) (sighted l m (v .sight)) (row y (v .map)) (row z (v .walk)) (v .sparse)

@@ -1,6 +1,6 @@
 -- A whole strict form, as the code reads it: the first word, by its number, tells the kind and what follows.
 use Prim.Native.Nat.{ℕ, _+_}
-use mathlib.Core.Bool.{Bool, false, cond}
+use mathlib.Core.Bool.{Bool, true, false, cond, not, _&&_}
 use mathlib.Core.List.{List, [], _∷_, _++_}
 use lib.Dec.{ltb}
 use lib.IntN.{ℤ, pos}
@@ -13,9 +13,8 @@ use Rattle.grammar.specs.Table.{Entry, _↝_}
 use Rattle.strict.specs.Words.{choose}
 use Rattle.strict.specs.Lists.{Row, row, nothing}
 use Rattle.strict.specs.Inner.{Cored, Tiled, Tensed, pointee, close, tile, tensor}
-use Rattle.strict.specs.Views.{Viewed, partition, gather, strided}
+use Rattle.strict.specs.Views.{Viewed, viewed, entries, walking, mid, sight, ending}
 use Rattle.strict.specs.declared.whole.Whole.{Whole}
-use Rattle.strict.specs.declared.view.View.{View}
 
 abbrev pub heads : List ℕ
 heads =
@@ -94,12 +93,17 @@ view-of k v = record {
   pad = v .sight .pad;
 }
 
--- what follows the first word, by its number
-abbrev pub from-gather : ℕ → List ℕ → Answer Entire
-from-gather k r = cond (ltb k 34) (mapped (view-of K.GatherScatter) (gather r)) (mapped (view-of K.Strided) (strided r))
+-- a view: the entries of its tile, the traversal in a strided one, the word that opens a tensor view or a padding, what it opens, the end
+abbrev pub view : Kind → Bool → Bool → List ℕ → Answer Entire
+view k bare sparse t =
+    after (λ l r. after (λ w x. after (λ j y. after (λ v z. mapped (λ e. view-of k (viewed l v (e .map) w (e .sparse))) (ending sparse z)) (sight j y)) (mid bare x)) (walking bare r)) (entries true t)
 
+abbrev pub kind-by : Bool → Bool → Kind
+kind-by p g = cond p K.Partition (cond g K.GatherScatter K.Strided)
+
+-- what follows the first word, by its number
 abbrev pub from-partition : ℕ → List ℕ → Answer Entire
-from-partition k r = cond (ltb k 32) (mapped (view-of K.Partition) (partition r)) (from-gather k r)
+from-partition k r = view (kind-by (ltb k 32) (ltb k 34)) (ltb k 34) (ltb k 34 && not (ltb k 32)) r
 
 abbrev pub from-tensor : ℕ → List ℕ → Answer Entire
 from-tensor k r = cond (ltb k 30) (mapped tensor-of (tensor r)) (from-partition k r)
@@ -136,7 +140,7 @@ entire l m x y z w = record {
   pad = w .pad;
 }
 
--- the code's types: no view, and a view
+-- the code's types that are no view
 abbrev pub plainly : Kind → Bool → ℕ → Bool → ℕ → ℕ → ℕ → Whole
 plainly k p w m n o e = record {
   kind = k;
@@ -152,21 +156,4 @@ plainly k p w m n o e = record {
   padded = false;
   pad = 0;
   end = e;
-}
-
-abbrev pub viewing : Kind → View → Whole
-viewing k v = record {
-  kind = k;
-  pointer = false;
-  word = v .sight .tensor .word;
-  marked = v .sight .tensor .marked;
-  shape = v .sight .tensor .rank;
-  strides = v .sight .tensor .len;
-  tile = v .tile;
-  map = v .map;
-  walk = v .walk;
-  sparse = v .sparse;
-  padded = v .sight .padded;
-  pad = v .sight .pad;
-  end = v .end;
 }

@@ -1,10 +1,9 @@
-// What stands in each of the three views, from the entries of its tile to its closing `>`.
+// The parts of the three views, from the entries of the tile to the closing `>`.
 use super::inner::Tensor;
 use super::inner::read_tensor;
 use super::list::Listed;
 use super::list::read_list32;
 use super::middles::read_lead;
-use super::middles::read_mid;
 use super::middles::read_pad;
 use super::number::Num32;
 use super::number::number32;
@@ -18,7 +17,7 @@ ghost use Prim.Native.Nat.{_≤_};
 ghost use Rattle.strict.specs.Cursor.{Told, place};
 ghost use Rattle.strict.specs.Words.{next};
 ghost use Rattle.strict.specs.Lists.{row};
-ghost use Rattle.strict.specs.Views.{sight, sighted, scene, staged, map-part, small, sparse-part, partition, gather, strided, shown};
+ghost use Rattle.strict.specs.Views.{sight, sighted, walking, map-part, small, sparse-part, closed, ending};
 
 // A tensor view, and the padding before it by its number.
 pub(crate) struct Sight {
@@ -27,23 +26,21 @@ pub(crate) struct Sight {
     pub(crate) tensor: Tensor,
 }
 
-pub(crate) struct Scene {
-    pub(crate) len: usize,
-    pub(crate) sight: Sight,
-}
-
-// A view: how many entries its lists have.
-pub(crate) struct View {
-    pub(crate) tile: usize,
-    pub(crate) sight: Sight,
+// The end of a view: how many entries its map has, and its sparse dimension.
+pub(crate) struct Last {
     pub(crate) map: usize,
-    pub(crate) walk: usize,
     pub(crate) sparse: i32,
     pub(crate) end: usize,
 }
 
 // What follows the word `k` that opens a tensor view or a padding.
-fn read_sight(s: &[u8], from: usize, k: usize, shape: &mut [i64], strides: &mut [i64]) -> Sight
+pub(crate) fn read_sight(
+    s: &[u8],
+    from: usize,
+    k: usize,
+    shape: &mut [i64],
+    strides: &mut [i64],
+) -> Sight
     requires { ⌜ place (now s) from ≤ length (now s) ⌝ }
     requires { ⌜ now shape ≡ padded 8 [] ⌝ }
     requires { ⌜ now strides ≡ padded 8 [] ⌝ }
@@ -67,25 +64,23 @@ fn read_sight(s: &[u8], from: usize, k: usize, shape: &mut [i64], strides: &mut 
     }
 }
 
-// A list, of the tile or of the traversal, and the tensor view after it.
-fn read_scene(
-    s: &[u8],
-    from: usize,
-    tile: bool,
-    list: &mut [i32],
-    shape: &mut [i64],
-    strides: &mut [i64],
-) -> Scene
+// In a strided view, the traversal after the tile.
+pub(crate) fn read_walk(s: &[u8], from: usize, bare: bool, walk: &mut [i32]) -> Listed
     requires { ⌜ place (now s) from ≤ length (now s) ⌝ }
-    requires { ⌜ now list ≡ padded 8 [] ⌝ }
-    requires { ⌜ now shape ≡ padded 8 [] ⌝ }
-    requires { ⌜ now strides ≡ padded 8 [] ⌝ }
-    ensures { λ r. ⌜ Told (now (s .entry)) (place (now (s .entry)) from) (next (now (s .entry)) (scene tile) from) (staged (now (list .exit)) (now (shape .exit)) (now (strides .exit)) r) (r .sight .tensor .end) ⌝ }
+    requires { ⌜ now walk ≡ padded 8 [] ⌝ }
+    ensures { λ r. ⌜ Told (now (s .entry)) (place (now (s .entry)) from) (next (now (s .entry)) (walking bare) from) (row (now (walk .exit)) (r .len)) (r .end) ⌝ }
 {
-    let l = read_list32(s, from, tile, list);
-    let k = read_mid(s, l.end, tile);
-    let sight = read_sight(s, k.end, k.word, shape, strides);
-    Scene { len: l.len, sight }
+    if bare {
+        return Listed { len: 0, end: from };
+    }
+    let k = read_two(
+        s,
+        from,
+        b"),",
+        b"traversal_strides=[",
+        b" traversal_strides=[",
+    );
+    read_list32(s, k.end, false, walk)
 }
 
 // The dimension map, and the end of the view.
@@ -131,96 +126,23 @@ fn read_sparse(s: &[u8], from: usize) -> Num32
     }
 }
 
-pub(crate) fn read_partition(
-    s: &[u8],
-    from: usize,
-    shape: &mut [i64],
-    strides: &mut [i64],
-    tile: &mut [i32],
-    map: &mut [i32],
-) -> View
+// The end of a view: its sparse dimension, or its map.
+pub(crate) fn read_last(s: &[u8], from: usize, sparse: bool, map: &mut [i32]) -> Last
     requires { ⌜ place (now s) from ≤ length (now s) ⌝ }
-    requires { ⌜ now shape ≡ padded 8 [] ⌝ }
-    requires { ⌜ now strides ≡ padded 8 [] ⌝ }
-    requires { ⌜ now tile ≡ padded 8 [] ⌝ }
     requires { ⌜ now map ≡ padded 8 [] ⌝ }
-    ensures { λ r. ⌜ Told (now (s .entry)) (place (now (s .entry)) from) (next (now (s .entry)) partition from) (shown (now (shape .exit)) (now (strides .exit)) (now (tile .exit)) (now (map .exit)) (padded 8 []) r) (r .end) ⌝ }
+    ensures { λ r. ⌜ Told (now (s .entry)) (place (now (s .entry)) from) (next (now (s .entry)) (ending sparse) from) (closed (row (now (map .exit)) (r .map)) (r .sparse)) (r .end) ⌝ }
 {
-    let c = read_scene(s, from, true, tile, shape, strides);
-    let sight = c.sight;
-    let tensor = sight.tensor;
-    let m = read_map(s, tensor.end, map);
-    View {
-        tile: c.len,
-        sight,
-        map: m.len,
-        walk: 0,
-        sparse: 0,
-        end: m.end,
+    if sparse {
+        let n = read_sparse(s, from);
+        return Last {
+            map: 0,
+            sparse: n.value,
+            end: n.end,
+        };
     }
-}
-
-pub(crate) fn read_gather(
-    s: &[u8],
-    from: usize,
-    shape: &mut [i64],
-    strides: &mut [i64],
-    tile: &mut [i32],
-) -> View
-    requires { ⌜ place (now s) from ≤ length (now s) ⌝ }
-    requires { ⌜ now shape ≡ padded 8 [] ⌝ }
-    requires { ⌜ now strides ≡ padded 8 [] ⌝ }
-    requires { ⌜ now tile ≡ padded 8 [] ⌝ }
-    ensures { λ r. ⌜ Told (now (s .entry)) (place (now (s .entry)) from) (next (now (s .entry)) gather from) (shown (now (shape .exit)) (now (strides .exit)) (now (tile .exit)) (padded 8 []) (padded 8 []) r) (r .end) ⌝ }
-{
-    let c = read_scene(s, from, true, tile, shape, strides);
-    let sight = c.sight;
-    let tensor = sight.tensor;
-    let n = read_sparse(s, tensor.end);
-    View {
-        tile: c.len,
-        sight,
-        map: 0,
-        walk: 0,
-        sparse: n.value,
-        end: n.end,
-    }
-}
-
-pub(crate) fn read_strided(
-    s: &[u8],
-    from: usize,
-    shape: &mut [i64],
-    strides: &mut [i64],
-    tile: &mut [i32],
-    map: &mut [i32],
-    walk: &mut [i32],
-) -> View
-    requires { ⌜ place (now s) from ≤ length (now s) ⌝ }
-    requires { ⌜ now shape ≡ padded 8 [] ⌝ }
-    requires { ⌜ now strides ≡ padded 8 [] ⌝ }
-    requires { ⌜ now tile ≡ padded 8 [] ⌝ }
-    requires { ⌜ now map ≡ padded 8 [] ⌝ }
-    requires { ⌜ now walk ≡ padded 8 [] ⌝ }
-    ensures { λ r. ⌜ Told (now (s .entry)) (place (now (s .entry)) from) (next (now (s .entry)) strided from) (shown (now (shape .exit)) (now (strides .exit)) (now (tile .exit)) (now (map .exit)) (now (walk .exit)) r) (r .end) ⌝ }
-{
-    let l = read_list32(s, from, true, tile);
-    let k = read_two(
-        s,
-        l.end,
-        b"),",
-        b"traversal_strides=[",
-        b" traversal_strides=[",
-    );
-    let c = read_scene(s, k.end, false, walk, shape, strides);
-    let sight = c.sight;
-    let tensor = sight.tensor;
-    let m = read_map(s, tensor.end, map);
-    View {
-        tile: l.len,
-        sight,
+    let m = read_map(s, from, map);
+    Last {
         map: m.len,
-        walk: c.len,
         sparse: 0,
         end: m.end,
     }

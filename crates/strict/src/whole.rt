@@ -3,19 +3,21 @@ use super::heads::read_head;
 use super::inner::read_pointee;
 use super::inner::read_tensor;
 use super::inner::read_tile;
-use super::view::View;
-use super::view::read_gather;
-use super::view::read_partition;
-use super::view::read_strided;
+use super::list::read_list32;
+use super::middles::read_mid;
+use super::view::read_last;
+use super::view::read_sight;
+use super::view::read_walk;
 use meaning::Kind;
 ghost use mathlib.Core.Path.{_≡_};
 ghost use mathlib.Core.List.{[]};
+ghost use lib.Dec.{ltb};
 ghost use lib.ListN.{length};
 ghost use Rattle.meaning.specs.Found.{padded};
 ghost use Prim.Native.Nat.{_≤_};
 ghost use Rattle.strict.specs.Cursor.{Told, place};
 ghost use Rattle.strict.specs.Words.{next};
-ghost use Rattle.strict.specs.Whole.{plainly, viewing, entire, from-partition, whole};
+ghost use Rattle.strict.specs.Whole.{plainly, kind-by, entire, from-partition, whole};
 
 // A type of any rank: a scalar and a padding by their numbers, and how many entries its lists have.
 pub(crate) struct Whole {
@@ -63,31 +65,21 @@ fn made(
     }
 }
 
-// A view.
-fn made_view(kind: Kind, v: View) -> Whole
-    ensures { λ r. ⌜ r ≡ viewing kind v ⌝ }
+// The kind of a view, by its first word.
+fn view_kind(k: usize) -> Kind
+    ensures { λ r. ⌜ r ≡ kind-by (ltb k 32) (ltb k 34) ⌝ }
 {
-    let sight = v.sight;
-    let tensor = sight.tensor;
-    Whole {
-        kind,
-        pointer: false,
-        word: tensor.word,
-        marked: tensor.marked,
-        shape: tensor.rank,
-        strides: tensor.len,
-        tile: v.tile,
-        map: v.map,
-        walk: v.walk,
-        sparse: v.sparse,
-        padded: sight.padded,
-        pad: sight.pad,
-        end: v.end,
+    if k < 32 {
+        return Kind::Partition;
     }
+    if k < 34 {
+        return Kind::GatherScatter;
+    }
+    Kind::Strided
 }
 
 // After the first word `k`: a partition view, a gather-scatter view or a strided view.
-fn on_view(
+fn read_view(
     s: &[u8],
     from: usize,
     k: usize,
@@ -105,16 +97,30 @@ fn on_view(
     requires { ⌜ now walk ≡ padded 8 [] ⌝ }
     ensures { λ r. ⌜ Told (now (s .entry)) (place (now (s .entry)) from) (next (now (s .entry)) (from-partition k) from) (entire (now (shape .exit)) (now (strides .exit)) (now (tile .exit)) (now (map .exit)) (now (walk .exit)) r) (r .end) ⌝ }
 {
-    if k < 32 {
-        let v = read_partition(s, from, shape, strides, tile, map);
-        return made_view(Kind::Partition, v);
+    let bare = k < 34;
+    let t = read_list32(s, from, true, tile);
+    let w = read_walk(s, t.end, bare, walk);
+    let m = read_mid(s, w.end, bare);
+    let sight = read_sight(s, m.end, m.word, shape, strides);
+    let tensor = sight.tensor;
+    let e = read_last(s, tensor.end, bare & !(k < 32), map);
+    let kind = view_kind(k);
+    let sparse = e.sparse;
+    Whole {
+        kind,
+        pointer: false,
+        word: tensor.word,
+        marked: tensor.marked,
+        shape: tensor.rank,
+        strides: tensor.len,
+        tile: t.len,
+        map: e.map,
+        walk: w.len,
+        sparse,
+        padded: sight.padded,
+        pad: sight.pad,
+        end: e.end,
     }
-    if k < 34 {
-        let v = read_gather(s, from, shape, strides, tile);
-        return made_view(Kind::GatherScatter, v);
-    }
-    let v = read_strided(s, from, shape, strides, tile, map, walk);
-    made_view(Kind::Strided, v)
 }
 
 // A whole strict form from the start of the text, with the place where it ends or is stuck. Its lists are laid into five blank ones.
@@ -161,5 +167,5 @@ pub(crate) fn read_whole(
             t.end,
         );
     }
-    on_view(s, k.end, k.word, shape, strides, tile, map, walk)
+    read_view(s, k.end, k.word, shape, strides, tile, map, walk)
 }

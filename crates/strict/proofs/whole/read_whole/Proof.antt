@@ -98,7 +98,7 @@ read-whole-spec =
     (λ c. search needs)
     (λ c. search needs)
     (λ c. search needs)
-    (λ c. let a = c .before .before .before .before .before .before .before .before .before .before .before .before .before .before .before .before .before .before .before .before .before .before .before .args in let s = a .s .now in let h = c .before .before .before .before .before .before .before .before .before .before .before .before .before .before .before .before .before .before .before .before .before .read-head in let k = h .result .word in let d = h .result .end in let o = h .ensures .onward in let m = c .before .before .before .before .before .on-view in let q = m .ensures .onward in
+    (λ c. let a = c .before .before .before .before .before .before .before .before .before .before .before .before .before .before .before .before .before .before .before .before .before .before .before .args in let s = a .s .now in let h = c .before .before .before .before .before .before .before .before .before .before .before .before .before .before .before .before .before .before .before .before .before .read-head in let k = h .result .word in let d = h .result .end in let o = h .ensures .onward in let m = c .before .before .before .before .before .read-view in let q = m .ensures .onward in
     record {
       same = L.whole-is s ∙ ap (after M.from-head) (h .ensures .same) ∙ K.hand s M.from-head k d
           ∙ L.above s d k 22 (λ r. got (M.scalar-of k) r) (M.from-token k) (let f = c .before .before .before .before .before .before .before .before .before .before .before .before .before .before .before .before .before .before .before .if1 .left in omega arith) ∙ L.above s d k 24 (λ r. got M.token r) (M.from-pointer k) (let f = c .before .before .before .before .before .before .before .before .before .before .before .before .before .before .before .before .before .if2 .left in omega arith) ∙ L.above s d k 26 (λ r. mapped M.pointer-of (I.pointee I.close r)) (M.from-tile k) (let f = c .before .before .before .before .before .before .before .before .before .before .before .before .before .before .before .if3 .left in omega arith) ∙ L.above s d k 28 (λ r. mapped M.tile-of (I.tile r)) (M.from-tensor k) (let f = c .before .before .before .before .before .before .before .before .before .before .before .before .before .if4 .left in omega arith) ∙ L.above s d k 30 (λ r. mapped M.tensor-of (I.tensor r)) (M.from-partition k) (let f = c .before .before .before .before .before .before .before .before .before .before .before .if5 .left in omega arith) ∙ m .ensures .same;
