@@ -13,7 +13,7 @@ use Rattle.grammar.specs.Piece.{Answer, got, stuck, member}
 use Rattle.grammar.specs.Table.{Entry, _↝_, rest-of, advance, or-done, done, settle, pick}
 use Rattle.grammar.specs.Join.{after}
 use Rattle.strict.specs.Cursor.{Told, place, stuck-at}
-use Rattle.strict.specs.Words.{next, among, advances, both, differ, ended}
+use Rattle.strict.specs.Words.{next, among, choose, entries, advances, both, differ, ended}
 use Rattle.strict.specs.declared.words.Picked.{Picked}
 use Rattle.strict.proofs.Numbers.{view}
 use Rattle.strict.proofs.Cursors as C
@@ -308,6 +308,16 @@ module _ (v : List ℕ) (j : ℕ) (w : List ℕ) (l : ℕ) where
     -- at a place of the text
     pub two-at : from ≤ length s → Told s from (among ((u ↝ 0) ∷ []) (drop from s)) k d → Told s (place s d) (next s (among ((v ↝ j) ∷ (w ↝ l) ∷ [])) d) a e → Told s from (among (both u v j w l) (drop from s)) a e
     two-at h t r = C.begun s (among (both u v j w l)) from h (two (C.begin s (among ((u ↝ 0) ∷ [])) from h t) r)
+
+-- a table's word from where a part before it ended
+module _ (s : List ℕ) (from : ℕ) (words : List ℕ) {a e : ℕ} (h : from ≤ length s) where
+  pub start : Told s from (among (entries words) (drop from s)) a e → Told s (place s from) (next s (choose words) from) a e
+  unfolding choose among
+  start t = C.begin s (choose words) from h t
+
+  pub started : Told s (place s from) (next s (choose words) from) a e → Told s from (among (entries words) (drop from s)) a e
+  unfolding choose among
+  started t = C.begun s (choose words) from h t
 
 -- handed on where a part before it is stuck
 pub idle : (s : List ℕ) (g : List ℕ → Answer ℕ) (from : ℕ) (r : Picked) → length s < from → place s from ≤ length s → r ≡ ended 0 from → Told s (place s from) (next s g from) (r .word) (r .end)

@@ -64,18 +64,6 @@ fn pad_n(s: &[u8], at: usize) -> Picked
     fork(s, p.end, b"zero", 1, b"inf", 4)
 }
 
-fn pad(s: &[u8], at: usize) -> Picked
-    requires { ⌜ at ≤ length (now s) ⌝ }
-    ensures { λ r. ⌜ Told (now (s .entry)) at (among (entries pads) (drop at (now (s .entry)))) (r .word) (r .end) ⌝ }
-{
-    match peek(s, at) {
-        110 => pad_n(s, at + 1),
-        112 => fit(s, at + 1, b"os_inf", 3),
-        122 => fit(s, at + 1, b"ero", 0),
-        _ => none(s, at),
-    }
-}
-
 // A padding, by its number.
 pub(crate) fn read_pad(s: &[u8], from: usize) -> Picked
     requires { ⌜ place (now s) from ≤ length (now s) ⌝ }
@@ -84,7 +72,12 @@ pub(crate) fn read_pad(s: &[u8], from: usize) -> Picked
     if s.len() < from {
         return found(0, from);
     }
-    pad(s, from)
+    match peek(s, from) {
+        110 => pad_n(s, from + 1),
+        112 => fit(s, from + 1, b"os_inf", 3),
+        122 => fit(s, from + 1, b"ero", 0),
+        _ => none(s, from),
+    }
 }
 
 // A tensor view's beginning in one of its three spellings: the words `k`, `k + 2` and `k + 4`.

@@ -10,7 +10,7 @@ ghost use lib.ListN.{drop, length};
 ghost use Prim.Native.Nat.{_≤_};
 ghost use Rattle.lexis.specs.Text.{bytes};
 ghost use Rattle.strict.specs.Cursor.{Told, place};
-ghost use Rattle.strict.specs.Words.{next, among, choose, entries, differ};
+ghost use Rattle.strict.specs.Words.{next, among, choose, differ};
 ghost use Rattle.strict.specs.Inner.{names, named, eights, kerns};
 
 // After `i`.
@@ -84,32 +84,7 @@ pub(crate) fn name_f(s: &[u8], at: usize) -> Picked
     }
 }
 
-fn name(s: &[u8], at: usize) -> Picked
-    requires { ⌜ at ≤ length (now s) ⌝ }
-    ensures { λ r. ⌜ Told (now (s .entry)) at (among (entries names) (drop at (now (s .entry)))) (r .word) (r .end) ⌝ }
-{
-    match peek(s, at) {
-        98 => fork(s, at + 1, b"f16", 7, b"ool", 21),
-        102 => name_f(s, at + 1),
-        105 => name_i(s, at + 1),
-        116 => fit(s, at + 1, b"f32", 9),
-        _ => none(s, at),
-    }
-}
-
-// A name, or the beginning of a pointer.
-fn core_name(s: &[u8], at: usize) -> Picked
-    requires { ⌜ at ≤ length (now s) ⌝ }
-    ensures { λ r. ⌜ Told (now (s .entry)) at (among (entries kerns) (drop at (now (s .entry)))) (r .word) (r .end) ⌝ }
-{
-    match peek(s, at) {
-        33 => fit(s, at + 1, b"cuda_tile.ptr<", 23),
-        112 => fit(s, at + 1, b"tr<", 22),
-        _ => name(s, at),
-    }
-}
-
-// The same from where a part before it ended.
+// A name, from where a part before it ended.
 pub(crate) fn read_name(s: &[u8], from: usize) -> Picked
     requires { ⌜ place (now s) from ≤ length (now s) ⌝ }
     ensures { λ r. ⌜ Told (now (s .entry)) (place (now (s .entry)) from) (next (now (s .entry)) (choose names) from) (r .word) (r .end) ⌝ }
@@ -117,9 +92,16 @@ pub(crate) fn read_name(s: &[u8], from: usize) -> Picked
     if s.len() < from {
         return found(0, from);
     }
-    name(s, from)
+    match peek(s, from) {
+        98 => fork(s, from + 1, b"f16", 7, b"ool", 21),
+        102 => name_f(s, from + 1),
+        105 => name_i(s, from + 1),
+        116 => fit(s, from + 1, b"f32", 9),
+        _ => none(s, from),
+    }
 }
 
+// A name, or the beginning of a pointer.
 pub(crate) fn read_core_name(s: &[u8], from: usize) -> Picked
     requires { ⌜ place (now s) from ≤ length (now s) ⌝ }
     ensures { λ r. ⌜ Told (now (s .entry)) (place (now (s .entry)) from) (next (now (s .entry)) (choose kerns) from) (r .word) (r .end) ⌝ }
@@ -127,5 +109,9 @@ pub(crate) fn read_core_name(s: &[u8], from: usize) -> Picked
     if s.len() < from {
         return found(0, from);
     }
-    core_name(s, from)
+    match peek(s, from) {
+        33 => fit(s, from + 1, b"cuda_tile.ptr<", 23),
+        112 => fit(s, from + 1, b"tr<", 22),
+        _ => read_name(s, from),
+    }
 }
