@@ -3,7 +3,7 @@ use Prim.Native.Nat.{ℕ, _+_, _-_, _≤_, _<_}
 use native.Mathlib.Omega.{arith}
 use mathlib.Core.Bool.{Bool, true, false}
 use mathlib.Core.List.{List, [], _∷_}
-use mathlib.Core.Path.{_≡_, refl, sym, ap, _∙_}
+use mathlib.Core.Path.{_≡_, refl, subst, sym, ap, _∙_}
 use borrow.Author.Tests.{eq-eqb, ne-eqb}
 use lib.IntN.{ℤ}
 use lib.ListN.{drop, length, getD, set, drop-of-length-le, length-drop, length-set}
@@ -107,3 +107,8 @@ module _ (f : List ℕ → Answer (List ℤ)) (g : List ℕ → Answer ℤ) {s :
         inside = r .inside;
         onward = omega arith;
       })
+
+-- ── a list that may be empty ──
+pub shaped : (f : List ℕ → Answer (List ℤ)) {s : List ℕ} {from : ℕ} {out : List ℤ} {l : Row} {e : ℕ} → from ≤ length s → out ≡ padded 8 [] →
+    Told s from (mapped (pushes (row out 0)) (f (drop from s))) l e → Told s (place s from) (next s (λ t. mapped (pushes nothing) (f t)) from) l e
+shaped f {s} {from} {out} {l} {e} h o t = begin s (λ t. mapped (pushes nothing) (f t)) from h (subst (λ (x : List ℤ). Told s from (mapped (pushes (row x 0)) (f (drop from s))) l e) o t)

@@ -1,7 +1,6 @@
 // What stands in a pointer, a tile and a tensor view, with what ends it. Names are numbers in the table of names.
-use super::list::Listed;
-use super::list::read_dims;
 use super::list::read_list64;
+use super::list::read_shape;
 use super::middles::read_open;
 use super::names::read_core_name;
 use super::names::read_name;
@@ -16,7 +15,6 @@ ghost use Rattle.meaning.specs.Found.{padded};
 ghost use Prim.Native.Nat.{_≤_};
 ghost use Rattle.strict.specs.Cursor.{Told, place};
 ghost use Rattle.strict.specs.Words.{next, differ};
-ghost use Rattle.strict.specs.Lists.{row};
 ghost use Rattle.strict.specs.Inner.{pointed, core, cored, shape, tile, tiled, listed, rest, rested, tensor, tensed};
 
 pub(crate) struct Core {
@@ -78,18 +76,6 @@ fn read_core(s: &[u8], from: usize) -> Core
         };
     }
     read_pointee(s, k.end, b">>", b", #cuda_tile.ptr_attr<none>>>")
-}
-
-// Dimensions, from where a part before them ended.
-fn read_shape(s: &[u8], from: usize, dims: &mut [i64]) -> Listed
-    requires { ⌜ place (now s) from ≤ length (now s) ⌝ }
-    requires { ⌜ now dims ≡ padded 8 [] ⌝ }
-    ensures { λ r. ⌜ Told (now (s .entry)) (place (now (s .entry)) from) (next (now (s .entry)) shape from) (row (now (dims .exit)) (r .len)) (r .end) ⌝ }
-{
-    if s.len() < from {
-        return Listed { len: 0, end: from };
-    }
-    read_dims(s, from, dims)
 }
 
 // What stands in a tile, with its end.

@@ -118,12 +118,16 @@ fn read_dim_x(s: &[u8], at: usize) -> Num64
 }
 
 // Dimensions, each followed by `x`.
-pub(crate) fn read_dims(s: &[u8], at: usize, out: &mut [i64]) -> Listed
-    requires { ⌜ at ≤ length (now s) ⌝ }
-    ensures { λ r. ⌜ Told (now (s .entry)) at (mapped (pushes (row (now (out .entry)) 0)) (dims64 (drop at (now (s .entry))))) (row (now (out .exit)) (r .len)) (r .end) ⌝ }
+pub(crate) fn read_shape(s: &[u8], from: usize, out: &mut [i64]) -> Listed
+    requires { ⌜ place (now s) from ≤ length (now s) ⌝ }
+    requires { ⌜ now out ≡ padded 8 [] ⌝ }
+    ensures { λ r. ⌜ Told (now (s .entry)) (place (now (s .entry)) from) (next (now (s .entry)) (λ t. mapped (pushes nothing) (dims64 t)) from) (row (now (out .exit)) (r .len)) (r .end) ⌝ }
 {
+    if s.len() < from {
+        return Listed { len: 0, end: from };
+    }
     let mut n = 0;
-    let mut i = at;
+    let mut i = from;
     while i < s.len() {
         if !starts(s[i]) {
             return Listed { len: n, end: i };
