@@ -3,10 +3,10 @@ use Prim.Native.Nat.{ℕ, _+_, _-_, _*_, _/_, _^_, _≤_, _<_}
 use native.Mathlib.Omega.{arith}
 use native.Mathlib.Numerals.{add-one}
 use native.Mathlib.Nat.{div-add-mod, mod-lt, zero-lt-suc}
-use mathlib.Core.Bool.{Bool, true, false, cond, _&&_}
+use mathlib.Core.Bool.{Bool, true, false, cond, _&&_, _||_}
 use mathlib.Core.List.{List, _∷_}
-use mathlib.Core.Path.{_≡_, refl, sym, ap}
-use lib.Dec.{T, leb, ltb, leb→le, le→leb, ltb→lt, lt→ltb, not-T}
+use mathlib.Core.Path.{_≡_, refl, sym, ap, _∙_}
+use lib.Dec.{T, eqb, leb, ltb, leb→le, le→leb, ltb→lt, lt→ltb, not-T}
 use lib.ListN.{drop, length, getD, drop-of-length-le}
 use lib.Seq.{drop-cons}
 use borrow.Author.Tests.{ne-eqb}
@@ -17,6 +17,7 @@ use Rattle.numerals.specs.Numeral.{digit}
 use Rattle.grammar.specs.Piece.{Answer, got, stuck, member}
 use Rattle.grammar.specs.Number as N
 use Rattle.grammar.specs.Number.{in-nine, nine-in}
+use Rattle.grammar.specs.Several.{figs?}
 use Rattle.strict.specs.Cursor as C
 use Rattle.grammar.specs.Join.{mapped}
 use lib.IntN.{pos}
@@ -128,3 +129,25 @@ mapped-valued f s a e = by (leb e (length s))
     by : (k : Bool) → mapped f (cond k (got a (drop e s)) (stuck (drop (e - (length s + 1)) s))) ≡ cond k (got (f a) (drop e s)) (stuck (drop (e - (length s + 1)) s))
     by true = refl
     by false = refl
+
+-- ── a byte that a dimension begins with ──
+iff : (a b : Bool) → (T a → T b) → (T b → T a) → a ≡ b
+iff true true f g = refl
+iff true false f g = absurd (f tt)
+iff false true f g = absurd (g tt)
+iff false false f g = refl
+
+apart : (p q r : Bool) → (p || q) || r ≡ p || (q || r)
+apart true q r = refl
+apart false q r = refl
+
+abbrev between : ℕ → Bool
+between b = ltb 47 b && ltb b 58
+
+ten-is : (b : ℕ) → between b ≡ member b N.ten
+ten-is b = iff (between b) (member b N.ten)
+    (λ t. let p = ltb→lt 47 b (and-left (ltb 47 b) (ltb b 58) t) in let q = ltb→lt b 58 (and-right (ltb 47 b) (ltb b 58) t) in N.in-ten b (and-in (leb 48 b) (leb b 57) (le→leb 48 b (omega arith)) (le→leb b 57 (omega arith))))
+    (λ m. N.member-every between N.ten b tt m)
+
+pub figure-is : (b : ℕ) → (eqb b 63 || eqb b 45) || between b ≡ member b figs?
+figure-is b = ap (λ (k : Bool). (eqb b 63 || eqb b 45) || k) (ten-is b) ∙ apart (eqb b 63) (eqb b 45) (member b N.ten)

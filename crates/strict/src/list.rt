@@ -92,16 +92,7 @@ fn read_commas64(s: &[u8], at: usize, out: &mut [i64]) -> Listed
 fn starts(b: u8) -> bool
     ensures { λ r. ⌜ r ≡ member b figs? ⌝ }
 {
-    (b == 63)
-        | ((b == 45)
-            | ((b == 48)
-                | ((b == 49)
-                    | ((b == 50)
-                        | ((b == 51)
-                            | ((b == 52)
-                                | ((b == 53)
-                                    | ((b == 54)
-                                        | ((b == 55) | ((b == 56) | ((b == 57) | false)))))))))))
+    (b == 63) | (b == 45) | ((47 < b) & (b < 58))
 }
 
 // A dimension and the `x` after it.

@@ -100,25 +100,11 @@ fn magnitude(s: &[u8], at: usize, most: u64) -> Mag
     }
 }
 
-fn plus32(n: u64) -> i32
-    requires { ⌜ n < 2 ^ 31 ⌝ }
-    ensures { λ r. ⌜ r ≡ pos n ⌝ }
-{
-    n as i32
-}
-
 fn minus32(n: u64) -> i32
     requires { ⌜ n ≤ 2 ^ 31 ⌝ }
     ensures { λ r. ⌜ r ≡ negℤ (pos n) ⌝ }
 {
     if n == 0 { 0 } else { -1 - ((n - 1) as i32) }
-}
-
-fn plus64(n: u64) -> i64
-    requires { ⌜ n < 2 ^ 63 ⌝ }
-    ensures { λ r. ⌜ r ≡ pos n ⌝ }
-{
-    n as i64
 }
 
 fn minus64(n: u64) -> i64
@@ -155,7 +141,7 @@ pub(crate) fn number32(s: &[u8], at: usize) -> Num32
     }
     let m = magnitude(s, at, 2147483647);
     Num32 {
-        value: plus32(m.value),
+        value: m.value as i32,
         end: m.end,
     }
 }
@@ -187,7 +173,7 @@ pub(crate) fn number64(s: &[u8], at: usize) -> Num64
     }
     let m = magnitude(s, at, 9223372036854775807);
     Num64 {
-        value: plus64(m.value),
+        value: m.value as i64,
         end: m.end,
     }
 }

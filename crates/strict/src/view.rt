@@ -17,7 +17,7 @@ ghost use Prim.Native.Nat.{_≤_};
 ghost use Rattle.strict.specs.Cursor.{Told, place};
 ghost use Rattle.strict.specs.Words.{next};
 ghost use Rattle.strict.specs.Lists.{row};
-ghost use Rattle.strict.specs.Views.{sight, sighted, walking, map-part, small, sparse-part, closed, ending};
+ghost use Rattle.strict.specs.Views.{sight, sighted, walking, map-part, sparse-part, closed, ending};
 
 // A tensor view, and the padding before it by its number.
 pub(crate) struct Sight {
@@ -98,27 +98,19 @@ fn read_map(s: &[u8], from: usize, map: &mut [i32]) -> Listed
     }
 }
 
-// A numeral, from where a part before it ended.
-fn read_small(s: &[u8], from: usize) -> Num32
-    requires { ⌜ place (now s) from ≤ length (now s) ⌝ }
-    ensures { λ r. ⌜ Told (now (s .entry)) (place (now (s .entry)) from) (next (now (s .entry)) small from) (r .value) (r .end) ⌝ }
-{
-    if s.len() < from {
-        return Num32 {
-            value: 0,
-            end: from,
-        };
-    }
-    number32(s, from)
-}
-
 // The sparse dimension, and the end of the view.
 fn read_sparse(s: &[u8], from: usize) -> Num32
     requires { ⌜ place (now s) from ≤ length (now s) ⌝ }
     ensures { λ r. ⌜ Told (now (s .entry)) (place (now (s .entry)) from) (next (now (s .entry)) sparse-part from) (r .value) (r .end) ⌝ }
 {
     let k = read_two(s, from, b",", b"sparse_dim=", b" sparse_dim=");
-    let n = read_small(s, k.end);
+    if s.len() < k.end {
+        return Num32 {
+            value: 0,
+            end: k.end,
+        };
+    }
+    let n = number32(s, k.end);
     let m = read_word(s, n.end, b">");
     Num32 {
         value: n.value,

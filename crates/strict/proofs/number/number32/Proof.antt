@@ -6,7 +6,7 @@ use Rattle.grammar.specs.Join.{mapped}
 use lib.IntN.{ℤ, pos}
 use lib.ListN.{drop}
 use Prim.Native.Nat.{_+_, _^_}
-use mir.ValLaws.{toZ-ofZ}
+use mir.ValLaws.{toZ-ofZ, toZ-pos}
 use mir.Syntax.{w32}
 use mathlib.Core.Path.{sym, ap, _∙_}
 use native.Mathlib.Omega.{arith}
@@ -34,8 +34,8 @@ number32-spec =
     (λ c. search needs)
     (λ c. let a = c .before .before .before .before .before .args in H.past (a .s .now) (a .at) (C.numeral (2 ^ 31) (2 ^ 31 + 1) (drop (a .at) (a .s .now))) (pos 0) ((a .at) + 1) (search needs) (omega arith) (L.num-zero (a .s .now) (a .at) (2 ^ 31) (2 ^ 31 + 1) (search needs) (search needs)))
     (λ c κs. search needs)
-    (λ c κs. search needs)
-    (λ c. let a = c .before .before .before .before .before .before .before .args in let m = c .before .magnitude2 in let e = toZ-ofZ w32 _ (record { sfits = c .plus32 .ok }) ∙ c .plus32 .ensures in
+    (λ c. search needs)
+    (λ c. let a = c .before .before .before .before .before .before .before .args in let m = c .before .magnitude2 in let b = m .ensures .below in let e = toZ-pos w32 (m .result .value) (search needs) in
     record {
       same = L.num-plain (a .s .now) (a .at) (2 ^ 31) (2 ^ 31 + 1) (search needs) (c .before .before .before .if2 .left) (c .before .before .if3 .left) ∙ ap (mapped pos) (m .ensures .same)
           ∙ L.mapped-valued pos (a .s .now) (m .result .value) (m .result .end) ∙ ap (λ (z : ℤ). C.valued (a .s .now) z (m .result .end)) (sym e);
