@@ -3,7 +3,6 @@ pub mod Rooms
 pub mod Digits
 pub mod Signs
 pub mod Entries
-pub mod Holding
 pub mod Short
 pub mod Same
 pub mod Opened

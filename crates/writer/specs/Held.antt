@@ -1,27 +1,21 @@
--- For the private contracts: names and clauses in arrays, spaces behind them.
-use Prim.Native.Nat.{ℕ, zero, suc}
-use mathlib.Core.List.{[], _∷_}
-use lib.ListN.{length}
-use Rattle.lexis.specs.Text.{Text}
-use Rattle.scalars.specs.declared.scalar.Scalar.{Scalar}
-use Rattle.meaning.specs.declared.Padding.{Padding}
-use Rattle.writer.specs.Flat.{word-of, pad-text}
-use Rattle.writer.specs.declared.names.Name.{Name}
-use Rattle.writer.specs.declared.names.Clause.{Clause}
+-- For the private contracts: texts that lie in a table of texts, one behind the other.
+use Prim.Native.Nat.{ℕ, _+_, _≤_}
+use mathlib.Core.Path.{_≡_}
+use lib.ListN.{length, take, drop}
+use Rattle.lexis.specs.Text.{Text, bytes}
+use Rattle.writer.specs.declared.names.Span.{Span}
 
-abbrev pub spaced : ℕ → Text → Text
-spaced zero x = []
-spaced (suc k) [] = 32 ∷ spaced k []
-spaced (suc k) (b ∷ x) = b ∷ spaced k x
+abbrev pub names : Text
+names = bytes "i1i4i8i16i32i64f16bf16f32tf32f64f8E4M3FNf8E5M2f8E8M0FNUf4E2M1FNf8E5M3FNU"
 
-abbrev pub name : Text → ℕ → Name
-name b n = record { bytes = b; len = n }
+abbrev pub paddings : Text
+paddings = bytes "padding_value=zero, padding_value=neg_zero, padding_value=nan, padding_value=pos_inf, padding_value=neg_inf, "
 
-abbrev pub clause : Text → ℕ → Clause
-clause b n = record { bytes = b; len = n }
+abbrev pub piece : Text → Span → Text
+piece table s = take (s .len) (drop (s .from) table)
 
-abbrev pub name-of : Scalar → Name
-name-of e = name (spaced 9 (word-of e)) (length (word-of e))
-
-abbrev pub clause-of : Padding → Clause
-clause-of p = clause (spaced 24 (pad-text p)) (length (pad-text p))
+-- x lies at s
+pub record Lies (table x : Text) (s : Span) : Type 0 where
+  pub within : s .from + s .len ≤ length table
+  pub is : piece table s ≡ x
+  pub long : s .len ≡ length x

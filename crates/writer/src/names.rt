@@ -1,71 +1,63 @@
-// Names of scalars and clauses of paddings, put from arrays.
+// Names of scalars and clauses of paddings, put from tables.
 use super::put::put_bytes;
 use meaning::Padding;
 use scalars::Scalar;
-ghost use mathlib.Core.Path.{_≡_};
 ghost use Prim.Native.Nat.{ℕ, _+_, _≤_};
 ghost use lib.ListN.{length};
 ghost use Rattle.writer.specs.Room.{Put};
 ghost use Rattle.writer.specs.Flat.{word-of, pad-text};
-ghost use Rattle.writer.specs.Held.{name, name-of, clause, clause-of};
+ghost use Rattle.writer.specs.Held.{names, paddings, piece, Lies};
 
-// A name of at most 9 bytes, spaces behind it.
-struct Name {
-    bytes: [u8; 9],
+// Where a text lies in a table of texts, one behind the other.
+struct Span {
+    from: usize,
     len: usize,
 }
 
-// A padding's clause of at most 24 bytes, spaces behind it.
-struct Clause {
-    bytes: [u8; 24],
-    len: usize,
-}
-
-fn held_name(bytes: [u8; 9], len: usize) -> Name
-    ensures { λ r. ⌜ r ≡ name bytes len ⌝ }
+// Puts what lies at `s` in `table`.
+fn put_piece(out: &mut [u8], at: usize, table: &[u8], s: Span) -> usize
+    requires { ⌜ s .from + s .len ≤ length (now table) ⌝ }
+    requires { ⌜ at + s .len ≤ length (now out) ⌝ }
+    ensures { λ r. ⌜ Put (now (out .entry)) at (piece (now (table .entry)) s) (now (out .exit)) r ⌝ }
 {
-    Name { bytes, len }
+    let from = s.from;
+    let end = from + s.len;
+    put_bytes(out, at, &table[from..end])
 }
 
-fn held_clause(bytes: [u8; 24], len: usize) -> Clause
-    ensures { λ r. ⌜ r ≡ clause bytes len ⌝ }
-{
-    Clause { bytes, len }
-}
-
-fn scalar_name(e: Scalar) -> Name
-    ensures { λ r. ⌜ r ≡ name-of e ⌝ }
+fn scalar_span(e: Scalar) -> Span
+    ensures { λ r. ⌜ Lies names (word-of e) r ⌝ }
 {
     match e {
-        Scalar::I1 => held_name(*b"i1       ", 2),
-        Scalar::I4 => held_name(*b"i4       ", 2),
-        Scalar::I8 => held_name(*b"i8       ", 2),
-        Scalar::I16 => held_name(*b"i16      ", 3),
-        Scalar::I32 => held_name(*b"i32      ", 3),
-        Scalar::I64 => held_name(*b"i64      ", 3),
-        Scalar::F16 => held_name(*b"f16      ", 3),
-        Scalar::BF16 => held_name(*b"bf16     ", 4),
-        Scalar::F32 => held_name(*b"f32      ", 3),
-        Scalar::TF32 => held_name(*b"tf32     ", 4),
-        Scalar::F64 => held_name(*b"f64      ", 3),
-        Scalar::F8E4M3FN => held_name(*b"f8E4M3FN ", 8),
-        Scalar::F8E5M2 => held_name(*b"f8E5M2   ", 6),
-        Scalar::F8E8M0FNU => held_name(*b"f8E8M0FNU", 9),
-        Scalar::F4E2M1FN => held_name(*b"f4E2M1FN ", 8),
-        Scalar::F8E5M3FNU => held_name(*b"f8E5M3FNU", 9),
+        Scalar::I1 => Span { from: 0, len: 2 },
+        Scalar::I4 => Span { from: 2, len: 2 },
+        Scalar::I8 => Span { from: 4, len: 2 },
+        Scalar::I16 => Span { from: 6, len: 3 },
+        Scalar::I32 => Span { from: 9, len: 3 },
+        Scalar::I64 => Span { from: 12, len: 3 },
+        Scalar::F16 => Span { from: 15, len: 3 },
+        Scalar::BF16 => Span { from: 18, len: 4 },
+        Scalar::F32 => Span { from: 22, len: 3 },
+        Scalar::TF32 => Span { from: 25, len: 4 },
+        Scalar::F64 => Span { from: 29, len: 3 },
+        Scalar::F8E4M3FN => Span { from: 32, len: 8 },
+        Scalar::F8E5M2 => Span { from: 40, len: 6 },
+        Scalar::F8E8M0FNU => Span { from: 46, len: 9 },
+        Scalar::F4E2M1FN => Span { from: 55, len: 8 },
+        Scalar::F8E5M3FNU => Span { from: 63, len: 9 },
     }
 }
 
-fn padding_clause(p: Padding) -> Clause
-    ensures { λ r. ⌜ r ≡ clause-of p ⌝ }
+fn padding_span(p: Padding) -> Span
+    ensures { λ r. ⌜ Lies paddings (pad-text p) r ⌝ }
 {
     match p {
-        Padding::Absent => held_clause(*b"                        ", 0),
-        Padding::Zero => held_clause(*b"padding_value=zero,     ", 20),
-        Padding::NegZero => held_clause(*b"padding_value=neg_zero, ", 24),
-        Padding::Nan => held_clause(*b"padding_value=nan,      ", 19),
-        Padding::PosInf => held_clause(*b"padding_value=pos_inf,  ", 23),
-        Padding::NegInf => held_clause(*b"padding_value=neg_inf,  ", 23),
+        Padding::Absent => Span { from: 0, len: 0 },
+        Padding::Zero => Span { from: 0, len: 20 },
+        Padding::NegZero => Span { from: 20, len: 24 },
+        Padding::Nan => Span { from: 44, len: 19 },
+        Padding::PosInf => Span { from: 63, len: 23 },
+        Padding::NegInf => Span { from: 86, len: 23 },
     }
 }
 
@@ -73,18 +65,19 @@ pub(crate) fn put_scalar(out: &mut [u8], at: usize, e: Scalar) -> usize
     requires { ⌜ at + length (word-of e) ≤ length (now out) ⌝ }
     ensures { λ r. ⌜ Put (now (out .entry)) at (word-of e) (now (out .exit)) r ⌝ }
 {
-    let w = scalar_name(e);
-    let b = w.bytes;
-    let n = w.len;
-    put_bytes(out, at, &b[..n])
+    let s = scalar_span(e);
+    put_piece(out, at, b"i1i4i8i16i32i64f16bf16f32tf32f64f8E4M3FNf8E5M2f8E8M0FNUf4E2M1FNf8E5M3FNU", s)
 }
 
 pub(crate) fn put_padding(out: &mut [u8], at: usize, p: Padding) -> usize
     requires { ⌜ at + length (pad-text p) ≤ length (now out) ⌝ }
     ensures { λ r. ⌜ Put (now (out .entry)) at (pad-text p) (now (out .exit)) r ⌝ }
 {
-    let w = padding_clause(p);
-    let b = w.bytes;
-    let n = w.len;
-    put_bytes(out, at, &b[..n])
+    let s = padding_span(p);
+    put_piece(
+        out,
+        at,
+        b"padding_value=zero, padding_value=neg_zero, padding_value=nan, padding_value=pos_inf, padding_value=neg_inf, ",
+        s,
+    )
 }
