@@ -1,16 +1,16 @@
 -- Lists put entry after entry: what is left of a list before an entry and after it, over any separator and any entry text.
-use Prim.Native.Nat.{ℕ, _+_, _≤_, _<_}
+use Prim.Native.Nat.{ℕ, zero, suc, _+_, _≤_, _<_}
 use native.Mathlib.Numerals.{add-one}
 use native.Mathlib.Omega.{arith}
 use mathlib.Core.List.{List, [], _∷_, _++_}
 use mathlib.Core.Path.{_≡_, refl, ap}
 use lib.IntN.{ℤ, pos}
-use lib.ListN.{length, drop, getD, drop-of-length-le}
+use lib.ListN.{length, take, drop, getD, drop-of-length-le}
 use lib.Seq.{drop-cons}
-use Rattle.lexis.specs.Text.{Text, bytes}
+use Rattle.lexis.specs.Text.{Text}
 use Rattle.meaning.specs.Strict.{_⊕_}
 use Rattle.writer.specs.Room.{Put}
-use Rattle.writer.specs.Flat.{behind, parted, entry, shaped, strides-text}
+use Rattle.writer.specs.Flat.{behind, parted, entry, clause64}
 use Rattle.writer.proofs.Rooms.{Left, _then_, nothing, none-left, all-left, left-as, less, ready}
 
 view : (l : List ℤ) (i : ℕ) → i < length l → drop i l ≡ getD l i (pos 0) ∷ drop (i + 1) l
@@ -41,22 +41,6 @@ pub parted-none : (v : ℕ) (f : ℤ → Text) (l : List ℤ) (s : Text) (a : �
 parted-none v f [] s a h = nothing s a
 parted-none v f (z ∷ l) s a h = let f : ⊥ = omega arith in absurd f
 
-module _ {s t x : Text} {a b : ℕ} (l : List ℤ) (i : ℕ) (h : i < length l) (k : Left s a x t b (shaped (drop i l))) where
-  open-shape : Left s a x t b (entry (getD l i (pos 0)) ++ ((120 ∷ []) ++ shaped (drop (i + 1) l)))
-  open-shape = left-as (ap shaped (view l i h)) k
-
-  pub dim-fits : b + length (entry (getD l i (pos 0))) ≤ length t
-  dim-fits = ready (entry (getD l i (pos 0))) ((120 ∷ []) ++ shaped (drop (i + 1) l)) open-shape
-
-  pub x-fits : {u : Text} {c : ℕ} → Put t b (entry (getD l i (pos 0))) u c → c + 1 ≤ length u
-  x-fits p = ready (120 ∷ []) (shaped (drop (i + 1) l)) (less open-shape p)
-
-  pub dim-put : {u w : Text} {c d : ℕ} → Put t b (entry (getD l i (pos 0))) u c → Put u c (120 ∷ []) w d → Left s a x w d (shaped (drop (i + 1) l))
-  dim-put p q = less (less open-shape p) q
-
-pub shape-done : {s t x : Text} {a b : ℕ} (l : List ℤ) (i : ℕ) → length l ≤ i → Left s a x t b (shaped (drop i l)) → Put s a x t b
-shape-done l i h k = none-left (left-as (ap shaped (drop-of-length-le l h)) k)
-
 module _ (v : ℕ) (f : ℤ → Text) (l : List ℤ) (h : 0 < length l) where
   pub first-fits : (s : Text) (a : ℕ) → a + length (parted (v ∷ []) f l) ≤ length s → a + length (f (getD l 0 (pos 0))) ≤ length s
   first-fits s a k = ready (f (getD l 0 (pos 0))) (behind (v ∷ []) f (drop 1 l)) (left-as (parted-is v f l h) (all-left s a (parted (v ∷ []) f l) k))
@@ -68,10 +52,15 @@ module _ (v : ℕ) (f : ℤ → Text) (l : List ℤ) (h : 0 < length l) where
   pub all-put : {s t u : Text} {a b c : ℕ} → Put s a (f (getD l 0 (pos 0))) t b → Put t b (behind (v ∷ []) f (drop 1 l)) u c → Put s a (parted (v ∷ []) f l) u c
   all-put p q = rw (parted-is v f l h) (p then q)
 
-pub no-strides : (l : List ℤ) → length l ≡ 0 → strides-text l ≡ []
-no-strides [] h = refl
-no-strides (z ∷ l) h = let f : ⊥ = omega arith in absurd f
+-- a clause with no entry is nothing
+module _ (head : Text) (v : ℕ) (l : List ℤ) (tail : Text) where
+  pub no-clause : {n : ℕ} → n ≡ 0 → clause64 head v (take n l) tail ≡ []
+  unfolding clause64
+  no-clause e = ap (λ (n : ℕ). clause64 head v (take n l) tail) e
 
-pub strides-is : (l : List ℤ) → (length l ≡ 0 → ⊥) → strides-text l ≡ bytes ", strides=[" ⊕ parted (bytes ",") entry l ⊕ bytes "]"
-strides-is [] h = absurd (h refl)
-strides-is (z ∷ l) h = refl
+pub clause-is : (head : Text) (v n : ℕ) (l : List ℤ) (tail : Text) → (n ≡ 0 → ⊥) → n ≤ length l →
+    clause64 head v (take n l) tail ≡ head ⊕ parted (v ∷ []) entry (take n l) ⊕ tail
+unfolding clause64
+clause-is head v zero l tail h k = absurd (h refl)
+clause-is head v (suc n) [] tail h k = let f : ⊥ = omega arith in absurd f
+clause-is head v (suc n) (z ∷ l) tail h k = refl

@@ -3,6 +3,7 @@ pub mod Rooms
 pub mod Digits
 pub mod Signs
 pub mod Entries
+pub mod Spans
 pub mod Short
 pub mod Same
 pub mod Opened

@@ -4,7 +4,7 @@ use native.Mathlib.Omega.{arith}
 use mathlib.Core.Bool.{Bool, true, false, _&&_, _||_, not}
 use mathlib.Core.List.{List, [], _∷_, _++_, map, append-assoc}
 use mathlib.Core.Option.{Option, none, some}
-use mathlib.Core.Path.{_≡_, refl, ap, _∙_}
+use mathlib.Core.Path.{_≡_, refl, sym, ap, _∙_}
 use lib.Dec.{eqb, eqb·suc-zero}
 use lib.IntN.{ℤ}
 use lib.ListN.{length, take}
@@ -20,13 +20,21 @@ use Rattle.meaning.specs.Strict as F
 use Rattle.meaning.specs.Strict.{_⊕_, Tensor, Form, spell}
 use Rattle.meaning.specs.Written.{_>>=_, unless, listed, dimension-of, first, form-as, written, tensor-of, view-of, tensor-in, shape-in, strides-in, tile-in}
 use Rattle.meaning.specs.Written.{map-in, traversal-in}
-use Rattle.writer.specs.Flat.{behind, entry, shaped, body-text, pad-text, lead-text, travel-text, map-text, sparse-text, body-in, inner-in}
+use Rattle.writer.specs.Flat.{behind, entry, clause32, clause64, shaped, body-text, pad-text, lead-text, travel-text, map-text, sparse-text, body-in, inner-in}
 use Rattle.writer.specs.Flat.{element-text, text-as, text, some-in, strides-fine, shown-as, shown}
 
 -- ── lists ──
+dims-is : (zs : List ℤ) → behind (bytes "x") entry zs ++ bytes "x" ≡ 120 ∷ F.dims (map dimension-of zs)
+dims-is [] = refl
+dims-is (z ∷ zs) = ap (λ (l : Text). 120 ∷ l) (append-assoc (entry z) (behind (bytes "x") entry zs) (bytes "x") ∙ ap (λ (l : Text). entry z ++ l) (dims-is zs))
+
 shaped-is : (zs : List ℤ) → F.dims (map dimension-of zs) ≡ shaped zs
+unfolding clause64
 shaped-is [] = refl
-shaped-is (z ∷ zs) = ap (λ (l : Text). entry z ++ (120 ∷ l)) (shaped-is zs)
+shaped-is (z ∷ zs) = sym (append-assoc (entry z) (behind (bytes "x") entry zs) (bytes "x") ∙ ap (λ (l : Text). entry z ++ l) (dims-is zs))
+
+dims-then : (zs : List ℤ) (r : Text) → 120 ∷ (F.dims (map dimension-of zs) ++ r) ≡ behind (bytes "x") entry zs ++ (120 ∷ r)
+dims-then zs r = ap (λ (l : Text). l ++ r) (sym (dims-is zs)) ∙ append-assoc (behind (bytes "x") entry zs) (bytes "x") r
 
 rest-is : {A : Type 0} (g : A → Text) (f : ℤ → A) (zs : List ℤ) → F.rest g (map (λ (z : ℤ). record { space = false; entry = f z }) zs) ≡ behind (bytes ",") (λ (z : ℤ). g (f z)) zs
 rest-is g f [] = refl
@@ -51,11 +59,11 @@ abbrev fine : List ℤ → List ℤ → Bool
 fine ds zs = filled zs || not (filled ds)
 
 tensor-tells : (e : Scalar) (m : Bool) (ds zs : List ℤ) → Tells (tensor-of e m ds zs) (fine ds zs) (body-text e m ds zs)
-unfolding Tells
+unfolding Tells clause64
 tensor-tells e m [] [] = refl
 tensor-tells e m (d ∷ ds) [] = tt
 tensor-tells e m [] (z ∷ zs) = simp (append-assoc, rest-is dim dimension-of zs)
-tensor-tells e m (d ∷ ds) (z ∷ zs) = simp (append-assoc, shaped-is ds, rest-is dim dimension-of zs)
+tensor-tells e m (d ∷ ds) (z ∷ zs) = simp (append-assoc, dims-then ds, rest-is dim dimension-of zs)
 
 abbrev spelt : Option Form → Option Text
 spelt o = each spell o
@@ -77,7 +85,7 @@ module _ (p : Padding) where
   partition-law : (ts : List ℤ) (o : Option Tensor) (b : Bool) (x : Text) (ms : List ℤ) → Tells o b x →
       spelt (view-of p ts o >>= λ v. each (F.partition v) (listed (λ z. z) ms))
       ≡ either (filled ts && b && filled ms) (bytes "!cuda_tile.partition_view<" ⊕ lead-text ts ⊕ inner x ⊕ map-text ms)
-  unfolding Tells lead-text travel-text map-text sparse-text
+  unfolding Tells clause32 sparse-text
   partition-law [] o b x ms k = refl
   partition-law (t ∷ ts) none true x ms k = absurd k
   partition-law (t ∷ ts) none false x ms k = refl
@@ -88,7 +96,7 @@ module _ (p : Padding) where
   gather-law : (ts : List ℤ) (o : Option Tensor) (b : Bool) (x : Text) (z : ℤ) → Tells o b x →
       spelt (each (λ v. F.gather v z) (view-of p ts o))
       ≡ either (filled ts && b) (bytes "!cuda_tile.gather_scatter_view<" ⊕ lead-text ts ⊕ inner x ⊕ sparse-text z)
-  unfolding Tells lead-text travel-text map-text sparse-text
+  unfolding Tells clause32 sparse-text
   gather-law [] o b x z k = refl
   gather-law (t ∷ ts) none true x z k = absurd k
   gather-law (t ∷ ts) none false x z k = refl
@@ -98,7 +106,7 @@ module _ (p : Padding) where
   strided-law : (ts : List ℤ) (o : Option Tensor) (b : Bool) (x : Text) (ws ms : List ℤ) → Tells o b x →
       spelt (view-of p ts o >>= λ v. listed (λ z. z) ws >>= λ t. each (F.strided v t true) (listed (λ z. z) ms))
       ≡ either (filled ts && b && filled ws && filled ms) (bytes "!cuda_tile.strided_view<" ⊕ lead-text ts ⊕ travel-text ws ⊕ inner x ⊕ map-text ms)
-  unfolding Tells lead-text travel-text map-text sparse-text
+  unfolding Tells clause32 sparse-text
   strided-law [] o b x ws ms k = refl
   strided-law (t ∷ ts) none true x ws ms k = absurd k
   strided-law (t ∷ ts) none false x ws ms k = refl

@@ -8,7 +8,7 @@ use lib.Dec.{lit≤}
 use lib.ListN.{length, length-append, take, getD}
 use lib.IntN.{ℤ, pos, negsuc}
 use lib.Signed.{mag}
-use Rattle.lexis.specs.Text.{Text, if_then_else_}
+use Rattle.lexis.specs.Text.{Text, bytes, if_then_else_}
 use Rattle.scalars.specs.declared.scalar.Scalar.{Scalar}
 use Rattle.scalars.specs.declared.scalar.Scalar.the-variants.{I1, I4, I8, I16, I32, I64, F16, BF16, F32, TF32, F64, F8E4M3FN, F8E5M2, F8E8M0FNU, F4E2M1FN, F8E5M3FNU}
 use Rattle.meaning.specs.declared.Record.{Record}
@@ -18,8 +18,8 @@ use Rattle.meaning.specs.declared.Kind.the-variants as K
 use Rattle.meaning.specs.declared.Padding.the-variants.{Absent, Zero, NegZero, Nan, PosInf, NegInf}
 use Rattle.meaning.specs.Decimal.{decimal, dim, dynamic, known}
 use Rattle.meaning.specs.Strict.{mark}
-use Rattle.meaning.specs.Written.{unknown, tile-in, map-in, traversal-in}
-use Rattle.writer.specs.Flat.{word-of, pad-text, entry, behind, parted, shaped, strides-text, body-in, inner-in, lead-text, travel-text, map-text}
+use Rattle.meaning.specs.Written.{unknown, shape-in, tile-in, map-in, traversal-in}
+use Rattle.writer.specs.Flat.{word-of, pad-text, entry, behind, parted, clause64, clause32, shaped, body-in, inner-in, lead-text, travel-text, map-text}
 use Rattle.writer.specs.Flat.{sparse-text, pointer-text, element-text, text, text-as, Small}
 use Rattle.writer.proofs.Digits.{short}
 
@@ -93,21 +93,18 @@ module _ (f : ℤ → Text) (b k : ℕ) (s : (z : ℤ) → mag z < 2 ^ b → len
       let a = length-append (f z) (behind (v ∷ []) f (take n l)) in
       omega (arith, s z (h 0), mul-le-mul-left (k + 1) p)
 
-shaped-short : (n : ℕ) (l : List ℤ) → Below 63 l → length (shaped (take n l)) ≤ 21 * n
-shaped-short zero l h = zero-le
-shaped-short (suc n) [] h = zero-le
-shaped-short (suc n) (z ∷ l) h =
-    let r = shaped-short n l (λ i. h (suc i)) in
-    let a = length-append (entry z) (120 ∷ shaped (take n l)) in
-    omega (arith, entry-short z (h 0))
+module _ (head : Text) (v : ℕ) (tail : Text) (n cap : ℕ) (l : List ℤ) (p : n ≤ cap) (q : 1 ≤ cap) where
+  clause64-short : Below 63 l → length (clause64 head v (take n l) tail) + 1 ≤ 21 * cap + length head + length tail
+  unfolding clause64
+  clause64-short h = by (take n l) (parted-short entry 63 20 entry-short v n cap l p q h)
+    where
+      by : (k : List ℤ) → length (parted (v ∷ []) entry k) + 1 ≤ 21 * cap → length (clause64 head v k tail) + 1 ≤ 21 * cap + length head + length tail
+      by [] e = omega arith
+      by (z ∷ k) e = simp length-append (omega (arith, length-append (entry z) (behind (v ∷ []) entry k)))
 
-strides-short : (n cap : ℕ) (l : List ℤ) → n ≤ cap → 1 ≤ cap → Below 63 l → length (strides-text (take n l)) ≤ 21 * cap + 11
-strides-short zero cap l p q h = zero-le
-strides-short (suc n) cap [] p q h = zero-le
-strides-short (suc n) cap (z ∷ l) p q h =
-    let r = parted-short entry 63 20 entry-short 44 (suc n) cap (z ∷ l) p q h in
-    let a = length-append (parted (44 ∷ []) entry (take (suc n) (z ∷ l))) (93 ∷ []) in
-    omega arith
+  clause32-short : Below 31 l → length (clause32 head v (take n l) tail) + 1 ≤ 12 * cap + length head + length tail
+  unfolding clause32
+  clause32-short h = simp length-append (omega (arith, parted-short decimal 31 11 small-short v n cap l p q h))
 
 -- ── the record ──
 pub record Ranged (r : Record) : Type 0 where
@@ -119,13 +116,15 @@ pub record Ranged (r : Record) : Type 0 where
   pub sparse : mag (r .sparse) < 2 ^ 31
 
 module _ (cap : ℕ) (one : 1 ≤ cap) (r : Record) (s : Small cap r) (g : Ranged r) where
+  shape-short : length (shaped (shape-in r)) ≤ 21 * cap
+  shape-short = omega (arith, clause64-short [] 120 (bytes "x") (r .«shape_len») cap (r .shape) (s .shape) one (g .shape))
+
   pub body-short : length (body-in r) ≤ 42 * cap + 47
   unfolding body-in
   body-short = simp length-append (omega (
     arith,
-    shaped-short (r .«shape_len») (r .shape) (g .shape),
-    s .shape,
-    strides-short (r .«strides_len») cap (r .strides) (s .strides) one (g .strides),
+    shape-short,
+    clause64-short (bytes ", strides=[") 44 (bytes "]") (r .«strides_len») cap (r .strides) (s .strides) one (g .strides),
     word-short (r .element),
     mark-short (r .attribute),
   ))
@@ -135,16 +134,13 @@ module _ (cap : ℕ) (one : 1 ≤ cap) (r : Record) (s : Small cap r) (g : Range
   inner-short = simp length-append (omega (arith, body-short, pad-short (r .padding)))
 
   lead-short : length (lead-text (tile-in r)) ≤ 12 * cap + 8
-  unfolding lead-text
-  lead-short = simp length-append (omega (arith, parted-short decimal 31 11 small-short 120 (r .«tile_len») cap (r .tile) (s .tile) one (g .tile)))
+  lead-short = omega (arith, clause32-short (bytes "tile=(") 120 (bytes "), ") (r .«tile_len») cap (r .tile) (s .tile) one (g .tile))
 
   travel-short : length (travel-text (traversal-in r)) ≤ 12 * cap + 21
-  unfolding travel-text
-  travel-short = simp length-append (omega (arith, parted-short decimal 31 11 small-short 44 (r .«traversal_len») cap (r .traversal) (s .traversal) one (g .traversal)))
+  travel-short = omega (arith, clause32-short (bytes "traversal_strides=[") 44 (bytes "], ") (r .«traversal_len») cap (r .traversal) (s .traversal) one (g .traversal))
 
   map-short : length (map-text (map-in r)) ≤ 12 * cap + 10
-  unfolding map-text
-  map-short = simp length-append (omega (arith, parted-short decimal 31 11 small-short 44 (r .«map_len») cap (r .map) (s .map) one (g .map)))
+  map-short = omega (arith, clause32-short (bytes "dim_map=[") 44 (bytes "]>") (r .«map_len») cap (r .map) (s .map) one (g .map))
 
   sparse-short : length (sparse-text (r .sparse)) ≤ 23
   unfolding sparse-text
@@ -160,7 +156,7 @@ module _ (cap : ℕ) (one : 1 ≤ cap) (r : Record) (s : Small cap r) (g : Range
   text-short-as : (k : Kind) → length (text-as k r) ≤ 78 * cap + 149
   text-short-as K.Scalar = omega (arith, word-short (r .element))
   text-short-as K.Pointer = omega (arith, pointer-short (r .element) (r .attribute))
-  text-short-as K.Tile = simp length-append (omega (arith, shaped-short (r .«shape_len») (r .shape) (g .shape), s .shape, element-short (r .pointer) (r .element) (r .attribute)))
+  text-short-as K.Tile = simp length-append (omega (arith, shape-short, element-short (r .pointer) (r .element) (r .attribute)))
   text-short-as K.TensorView = simp length-append (omega (arith, body-short))
   text-short-as K.Partition = simp length-append (omega (arith, lead-short, inner-short, map-short))
   text-short-as K.GatherScatter = simp length-append (omega (arith, lead-short, inner-short, sparse-short))

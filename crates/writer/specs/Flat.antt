@@ -1,6 +1,7 @@
 -- For the private contracts: the written text built without its form, one part behind the other, and which records have one.
 -- Where a caller puts a text as one part, its definition is `unfoldable`.
 use Prim.Native.Nat.{ℕ, _≤_}
+use Prim.Native.Char.{code}
 use mathlib.Core.Bool.{Bool, true, false, _&&_, _||_, not}
 use mathlib.Core.List.{List, [], _∷_}
 use mathlib.Core.Path.{_≡_}
@@ -31,13 +32,20 @@ parted sep f (z ∷ zs) = f z ⊕ behind sep f zs
 abbrev pub entry : ℤ → Text
 entry z = dim (dimension-of z)
 
+-- a list of 64-bit numbers between two texts, or nothing where it is empty
+unfoldable pub clause64 : Text → ℕ → List ℤ → Text → Text
+clause64 head sep [] tail = []
+clause64 head sep (z ∷ zs) tail = head ⊕ parted (sep ∷ []) entry (z ∷ zs) ⊕ tail
+
+-- a list of 32-bit numbers between two texts
+unfoldable pub clause32 : Text → ℕ → List ℤ → Text → Text
+clause32 head sep zs tail = head ⊕ parted (sep ∷ []) decimal zs ⊕ tail
+
 abbrev pub shaped : List ℤ → Text
-shaped [] = []
-shaped (z ∷ zs) = entry z ⊕ bytes "x" ⊕ shaped zs
+shaped zs = clause64 [] (code "x") zs (bytes "x")
 
 abbrev pub strides-text : List ℤ → Text
-strides-text [] = []
-strides-text (z ∷ zs) = bytes ", strides=[" ⊕ parted (bytes ",") entry (z ∷ zs) ⊕ bytes "]"
+strides-text zs = clause64 (bytes ", strides=[") (code ",") zs (bytes "]")
 
 abbrev pub word-of : Scalar → Text
 word-of e = S.word (first e)
@@ -51,14 +59,14 @@ pointer-text e m = bytes "!cuda_tile.ptr<" ⊕ word-of e ⊕ S.mark m ⊕ bytes 
 abbrev pub pad-text : Padding → Text
 pad-text p = S.padText (pads-of p)
 
-unfoldable pub lead-text : List ℤ → Text
-lead-text ts = bytes "tile=(" ⊕ parted (bytes "x") decimal ts ⊕ bytes "), "
+abbrev pub lead-text : List ℤ → Text
+lead-text ts = clause32 (bytes "tile=(") (code "x") ts (bytes "), ")
 
-unfoldable pub travel-text : List ℤ → Text
-travel-text ts = bytes "traversal_strides=[" ⊕ parted (bytes ",") decimal ts ⊕ bytes "], "
+abbrev pub travel-text : List ℤ → Text
+travel-text ts = clause32 (bytes "traversal_strides=[") (code ",") ts (bytes "], ")
 
-unfoldable pub map-text : List ℤ → Text
-map-text ms = bytes "dim_map=[" ⊕ parted (bytes ",") decimal ms ⊕ bytes "]>"
+abbrev pub map-text : List ℤ → Text
+map-text ms = clause32 (bytes "dim_map=[") (code ",") ms (bytes "]>")
 
 unfoldable pub sparse-text : ℤ → Text
 sparse-text z = bytes "sparse_dim=" ⊕ decimal z ⊕ bytes ">"
@@ -74,15 +82,48 @@ abbrev pub element-text : Bool → Scalar → Bool → Text
 element-text true e m = pointer-text e m
 element-text false e m = word-of e
 
+-- a strided view's traversal strides; in the other views nothing
+abbrev pub travel-when : Bool → Record → Text
+travel-when true r = travel-text (traversal-in r)
+travel-when false r = []
+
+-- a gather/scatter view's sparse dimension; in the other views the map
+abbrev pub last-when : Bool → Record → Text
+last-when true r = sparse-text (r .sparse)
+last-when false r = map-text (map-in r)
+
+abbrev pub head-as : Kind → Text
+head-as K.Scalar = []
+head-as K.Pointer = []
+head-as K.Tile = bytes "!cuda_tile.tile<"
+head-as K.TensorView = bytes "!cuda_tile.tensor_view<"
+head-as K.Partition = bytes "!cuda_tile.partition_view<"
+head-as K.GatherScatter = bytes "!cuda_tile.gather_scatter_view<"
+head-as K.Strided = bytes "!cuda_tile.strided_view<"
+head-as K.Token = bytes "!cuda_tile.token"
+
+abbrev pub tile-text : Record → Text
+tile-text r = shaped (shape-in r) ⊕ element-text (r .pointer) (r .element) (r .attribute) ⊕ bytes ">"
+
+abbrev pub tensor-text : Record → Text
+tensor-text r = body-in r ⊕ bytes ">"
+
+abbrev pub view-text : Bool → Bool → Record → Text
+view-text strided gather r = lead-text (tile-in r) ⊕ travel-when strided r ⊕ inner-in r ⊕ last-when gather r
+
+-- what stands behind the head
+abbrev pub rest-as : Kind → Record → Text
+rest-as K.Scalar r = word-of (r .element)
+rest-as K.Pointer r = pointer-text (r .element) (r .attribute)
+rest-as K.Tile r = tile-text r
+rest-as K.TensorView r = tensor-text r
+rest-as K.Partition r = view-text false false r
+rest-as K.GatherScatter r = view-text false true r
+rest-as K.Strided r = view-text true false r
+rest-as K.Token r = []
+
 abbrev pub text-as : Kind → Record → Text
-text-as K.Scalar r = word-of (r .element)
-text-as K.Pointer r = pointer-text (r .element) (r .attribute)
-text-as K.Tile r = bytes "!cuda_tile.tile<" ⊕ shaped (shape-in r) ⊕ element-text (r .pointer) (r .element) (r .attribute) ⊕ bytes ">"
-text-as K.TensorView r = bytes "!cuda_tile.tensor_view<" ⊕ body-in r ⊕ bytes ">"
-text-as K.Partition r = bytes "!cuda_tile.partition_view<" ⊕ lead-text (tile-in r) ⊕ inner-in r ⊕ map-text (map-in r)
-text-as K.GatherScatter r = bytes "!cuda_tile.gather_scatter_view<" ⊕ lead-text (tile-in r) ⊕ inner-in r ⊕ sparse-text (r .sparse)
-text-as K.Strided r = bytes "!cuda_tile.strided_view<" ⊕ lead-text (tile-in r) ⊕ travel-text (traversal-in r) ⊕ inner-in r ⊕ map-text (map-in r)
-text-as K.Token r = bytes "!cuda_tile.token"
+text-as k r = head-as k ⊕ rest-as k r
 
 abbrev pub text : Record → Text
 text r = text-as (r .kind) r

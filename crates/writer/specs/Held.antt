@@ -11,6 +11,9 @@ names = bytes "i1i4i8i16i32i64f16bf16f32tf32f64f8E4M3FNf8E5M2f8E8M0FNUf4E2M1FNf8
 abbrev pub paddings : Text
 paddings = bytes "padding_value=zero, padding_value=neg_zero, padding_value=nan, padding_value=pos_inf, padding_value=neg_inf, "
 
+abbrev pub heads : Text
+heads = bytes "!cuda_tile.tile<!cuda_tile.tensor_view<!cuda_tile.partition_view<!cuda_tile.gather_scatter_view<!cuda_tile.strided_view<!cuda_tile.token"
+
 abbrev pub piece : Text → Span → Text
 piece table s = take (s .len) (drop (s .from) table)
 

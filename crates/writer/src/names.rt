@@ -1,12 +1,13 @@
-// Names of scalars and clauses of paddings, put from tables.
+// Heads of kinds, names of scalars and clauses of paddings, put from tables.
 use super::put::put_bytes;
+use meaning::Kind;
 use meaning::Padding;
 use scalars::Scalar;
 ghost use Prim.Native.Nat.{ℕ, _+_, _≤_};
 ghost use lib.ListN.{length};
 ghost use Rattle.writer.specs.Room.{Put};
-ghost use Rattle.writer.specs.Flat.{word-of, pad-text};
-ghost use Rattle.writer.specs.Held.{names, paddings, piece, Lies};
+ghost use Rattle.writer.specs.Flat.{word-of, pad-text, head-as};
+ghost use Rattle.writer.specs.Held.{names, paddings, heads, piece, Lies};
 
 // Where a text lies in a table of texts, one behind the other.
 struct Span {
@@ -61,12 +62,32 @@ fn padding_span(p: Padding) -> Span
     }
 }
 
+fn head_span(k: Kind) -> Span
+    ensures { λ r. ⌜ Lies heads (head-as k) r ⌝ }
+{
+    match k {
+        Kind::Scalar => Span { from: 0, len: 0 },
+        Kind::Pointer => Span { from: 0, len: 0 },
+        Kind::Tile => Span { from: 0, len: 16 },
+        Kind::TensorView => Span { from: 16, len: 23 },
+        Kind::Partition => Span { from: 39, len: 26 },
+        Kind::GatherScatter => Span { from: 65, len: 31 },
+        Kind::Strided => Span { from: 96, len: 24 },
+        Kind::Token => Span { from: 120, len: 16 },
+    }
+}
+
 pub(crate) fn put_scalar(out: &mut [u8], at: usize, e: Scalar) -> usize
     requires { ⌜ at + length (word-of e) ≤ length (now out) ⌝ }
     ensures { λ r. ⌜ Put (now (out .entry)) at (word-of e) (now (out .exit)) r ⌝ }
 {
     let s = scalar_span(e);
-    put_piece(out, at, b"i1i4i8i16i32i64f16bf16f32tf32f64f8E4M3FNf8E5M2f8E8M0FNUf4E2M1FNf8E5M3FNU", s)
+    put_piece(
+        out,
+        at,
+        b"i1i4i8i16i32i64f16bf16f32tf32f64f8E4M3FNf8E5M2f8E8M0FNUf4E2M1FNf8E5M3FNU",
+        s,
+    )
 }
 
 pub(crate) fn put_padding(out: &mut [u8], at: usize, p: Padding) -> usize
@@ -78,6 +99,19 @@ pub(crate) fn put_padding(out: &mut [u8], at: usize, p: Padding) -> usize
         out,
         at,
         b"padding_value=zero, padding_value=neg_zero, padding_value=nan, padding_value=pos_inf, padding_value=neg_inf, ",
+        s,
+    )
+}
+
+pub(crate) fn put_head(out: &mut [u8], at: usize, k: Kind) -> usize
+    requires { ⌜ at + length (head-as k) ≤ length (now out) ⌝ }
+    ensures { λ r. ⌜ Put (now (out .entry)) at (head-as k) (now (out .exit)) r ⌝ }
+{
+    let s = head_span(k);
+    put_piece(
+        out,
+        at,
+        b"!cuda_tile.tile<!cuda_tile.tensor_view<!cuda_tile.partition_view<!cuda_tile.gather_scatter_view<!cuda_tile.strided_view<!cuda_tile.token",
         s,
     )
 }

@@ -1,7 +1,6 @@
 // The parts of a text, put one behind the other.
-use super::lists::put_list;
-use super::lists::put_shape;
-use super::lists::put_strides;
+use super::lists::put_clause32;
+use super::lists::put_clause64;
 use super::names::put_padding;
 use super::names::put_scalar;
 use super::put::put_byte;
@@ -13,7 +12,8 @@ ghost use Prim.Native.Nat.{ℕ, _+_, _≤_};
 ghost use lib.ListN.{length};
 ghost use Rattle.meaning.specs.Strict.{mark};
 ghost use Rattle.writer.specs.Room.{Put};
-ghost use Rattle.writer.specs.Flat.{Small, body-in, inner-in, pointer-text, element-text, strides-text, lead-text, travel-text, map-text, sparse-text};
+ghost use Rattle.meaning.specs.Written.{shape-in, strides-in, tile-in};
+ghost use Rattle.writer.specs.Flat.{Small, body-in, inner-in, pointer-text, element-text, shaped, strides-text, lead-text, travel-when, sparse-text, last-when};
 
 // The mark, or nothing.
 pub(crate) fn put_mark(out: &mut [u8], at: usize, attribute: bool) -> usize
@@ -26,17 +26,24 @@ pub(crate) fn put_mark(out: &mut [u8], at: usize, attribute: bool) -> usize
     at
 }
 
-// `, strides=[..]`, or nothing.
-pub(crate) fn put_clause(out: &mut [u8], at: usize, l: &[i64]) -> usize
-    requires { ⌜ at + length (strides-text (now l)) ≤ length (now out) ⌝ }
-    ensures { λ r. ⌜ Put (now (out .entry)) at (strides-text (now (l .entry))) (now (out .exit)) r ⌝ }
+// A shape, with an `x` behind each entry.
+pub(crate) fn put_shape(out: &mut [u8], at: usize, r: Record) -> usize
+    requires { ⌜ Small 8 r ⌝ }
+    requires { ⌜ at + length (shaped (shape-in r)) ≤ length (now out) ⌝ }
+    ensures { λ e. ⌜ Put (now (out .entry)) at (shaped (shape-in r)) (now (out .exit)) e ⌝ }
 {
-    if l.len() == 0 {
-        return at;
-    }
-    let a = put_bytes(out, at, b", strides=[");
-    let b = put_strides(out, a, l);
-    put_byte(out, b, b']')
+    let l = r.shape;
+    put_clause64(out, at, b"", l, r.shape_len, b'x', b"x")
+}
+
+// `, strides=[..]`, or nothing.
+fn put_strides(out: &mut [u8], at: usize, r: Record) -> usize
+    requires { ⌜ Small 8 r ⌝ }
+    requires { ⌜ at + length (strides-text (strides-in r)) ≤ length (now out) ⌝ }
+    ensures { λ e. ⌜ Put (now (out .entry)) at (strides-text (strides-in r)) (now (out .exit)) e ⌝ }
+{
+    let l = r.strides;
+    put_clause64(out, at, b", strides=[", l, r.strides_len, b',', b"]")
 }
 
 // What stands in a tensor view's brackets.
@@ -45,14 +52,10 @@ pub(crate) fn put_body(out: &mut [u8], at: usize, r: Record) -> usize
     requires { ⌜ at + length (body-in r) ≤ length (now out) ⌝ }
     ensures { λ e. ⌜ Put (now (out .entry)) at (body-in r) (now (out .exit)) e ⌝ }
 {
-    let shape = r.shape;
-    let n = r.shape_len;
-    let strides = r.strides;
-    let m = r.strides_len;
     let element = r.element;
-    let a = put_shape(out, at, &shape[..n]);
+    let a = put_shape(out, at, r);
     let b = put_scalar(out, a, element);
-    let d = put_clause(out, b, &strides[..m]);
+    let d = put_strides(out, b, r);
     put_mark(out, d, r.attribute)
 }
 
@@ -68,43 +71,56 @@ pub(crate) fn put_pointer(out: &mut [u8], at: usize, e: Scalar, attribute: bool)
 }
 
 // A view's tile shape, with `x` between.
-pub(crate) fn put_lead(out: &mut [u8], at: usize, l: &[i32]) -> usize
-    requires { ⌜ at + length (lead-text (now l)) ≤ length (now out) ⌝ }
-    ensures { λ r. ⌜ Put (now (out .entry)) at (lead-text (now (l .entry))) (now (out .exit)) r ⌝ }
+pub(crate) fn put_lead(out: &mut [u8], at: usize, r: Record) -> usize
+    requires { ⌜ Small 8 r ⌝ }
+    requires { ⌜ at + length (lead-text (tile-in r)) ≤ length (now out) ⌝ }
+    ensures { λ e. ⌜ Put (now (out .entry)) at (lead-text (tile-in r)) (now (out .exit)) e ⌝ }
 {
-    let a = put_bytes(out, at, b"tile=(");
-    let b = put_list(out, a, l, b'x');
-    put_bytes(out, b, b"), ")
+    let l = r.tile;
+    put_clause32(out, at, b"tile=(", l, r.tile_len, b'x', b"), ")
 }
 
-// A strided view's traversal strides.
-pub(crate) fn put_travel(out: &mut [u8], at: usize, l: &[i32]) -> usize
-    requires { ⌜ at + length (travel-text (now l)) ≤ length (now out) ⌝ }
-    ensures { λ r. ⌜ Put (now (out .entry)) at (travel-text (now (l .entry))) (now (out .exit)) r ⌝ }
+// A strided view's traversal strides; in the other views nothing.
+pub(crate) fn put_travel(out: &mut [u8], at: usize, r: Record, strided: bool) -> usize
+    requires { ⌜ Small 8 r ⌝ }
+    requires { ⌜ at + length (travel-when strided r) ≤ length (now out) ⌝ }
+    ensures { λ e. ⌜ Put (now (out .entry)) at (travel-when strided r) (now (out .exit)) e ⌝ }
 {
-    let a = put_bytes(out, at, b"traversal_strides=[");
-    let b = put_list(out, a, l, b',');
-    put_bytes(out, b, b"], ")
+    if strided {
+        let l = r.traversal;
+        return put_clause32(
+            out,
+            at,
+            b"traversal_strides=[",
+            l,
+            r.traversal_len,
+            b',',
+            b"], ",
+        );
+    }
+    at
 }
 
-// A view's map, and the `>` that closes the view.
-pub(crate) fn put_map(out: &mut [u8], at: usize, l: &[i32]) -> usize
-    requires { ⌜ at + length (map-text (now l)) ≤ length (now out) ⌝ }
-    ensures { λ r. ⌜ Put (now (out .entry)) at (map-text (now (l .entry))) (now (out .exit)) r ⌝ }
-{
-    let a = put_bytes(out, at, b"dim_map=[");
-    let b = put_list(out, a, l, b',');
-    put_bytes(out, b, b"]>")
-}
-
-// A view's sparse dimension, and the `>` that closes the view.
-pub(crate) fn put_sparse(out: &mut [u8], at: usize, z: i32) -> usize
-    requires { ⌜ at + length (sparse-text z) ≤ length (now out) ⌝ }
-    ensures { λ r. ⌜ Put (now (out .entry)) at (sparse-text z) (now (out .exit)) r ⌝ }
+fn put_sparse(out: &mut [u8], at: usize, r: Record) -> usize
+    requires { ⌜ at + length (sparse-text (r .sparse)) ≤ length (now out) ⌝ }
+    ensures { λ e. ⌜ Put (now (out .entry)) at (sparse-text (r .sparse)) (now (out .exit)) e ⌝ }
 {
     let a = put_bytes(out, at, b"sparse_dim=");
-    let b = put_small(out, a, z);
+    let b = put_small(out, a, r.sparse);
     put_byte(out, b, b'>')
+}
+
+// A gather/scatter view's sparse dimension, in the other views the map; and the `>` that closes the view.
+pub(crate) fn put_last(out: &mut [u8], at: usize, r: Record, gather: bool) -> usize
+    requires { ⌜ Small 8 r ⌝ }
+    requires { ⌜ at + length (last-when gather r) ≤ length (now out) ⌝ }
+    ensures { λ e. ⌜ Put (now (out .entry)) at (last-when gather r) (now (out .exit)) e ⌝ }
+{
+    if gather {
+        return put_sparse(out, at, r);
+    }
+    let l = r.map;
+    put_clause32(out, at, b"dim_map=[", l, r.map_len, b',', b"]>")
 }
 
 // A tile's element.

@@ -1,8 +1,6 @@
 -- Part behind part: the room is enough for all, so for each, and the puts compose.
 use native.Mathlib.Omega.{arith}
-use mathlib.Core.Path.{sym}
 use borrow.Author.Needs.{needs}
-use lib.Seq.{length-take-le}
 use lib.ListN.{length-append}
 use Rattle.writer.specs.Flat.{body-in}
 use Rattle.writer.proofs.Rooms.{_then_}
@@ -14,27 +12,9 @@ unfolding body-in
 put-body-spec =
     tie.close
     (tie.spec
-    (λ c. let q = c .before .before .before .before .pre .0 in omega (arith, q .shape, q .shape-array))
-    (λ c. let q = c .before .before .before .before .before .pre .0 in sym (length-take-le _ _ (omega (arith, q .shape, q .shape-array))))
-    (λ c κs. omega (arith, simp length-append at (c .before .before .before .before .before .pre .1)))
-    (λ c κs. omega (arith, simp length-append at (c .before .before .before .before .before .before .before .before .before .pre .1)))
-    (λ c.
-    let q = c .before .before .before .before .before .before .before .before .before .before .before .before .before .pre .0 in
-    omega (arith, q .strides, q .strides-array))
-    (λ c.
-    let q = c .before .before .before .before .before .before .before .before .before .before .before .before .before .before .pre .0 in
-    sym (length-take-le _ _ (omega (arith, q .strides, q .strides-array))))
-    (λ c κs. omega (
-      arith,
-      simp length-append at (c .before .before .before .before .before .before .before .before .before .before .before .before .before .before .pre .1),
-    ))
-    (λ c κs. omega (
-      arith,
-      simp length-append at (c .before .before .before .before .before .before .before .before .before .before .before .before .before .before .before .before .before .before .pre .1),
-    ))
+    (λ c κs. (c .before .before .pre .0, omega (arith, simp length-append at (c .before .before .pre .1))))
+    (λ c κs. omega (arith, simp length-append at (c .before .before .before .before .before .before .pre .1)))
+    (λ c κs. (c .before .before .before .before .before .before .before .before .before .before .pre .0, omega (arith, simp length-append at (c .before .before .before .before .before .before .before .before .before .before .pre .1))))
+    (λ c κs. omega (arith, simp length-append at (c .before .before .before .before .before .before .before .before .before .before .before .before .before .before .pre .1)))
     (λ c. search needs)
-    (λ c.
-    let c₁ = c .before .before .before .before .before .before in
-    let c₂ = c₁ .before .before .before .before .before in
-    let c₃ = c₂ .before .before .before .before in
-    c₃ .put-shape .ensures then c₂ .put-scalar .ensures then c₁ .put-clause .ensures then c .before .before .put-mark .ensures))
+    (λ c. c .before .before .before .before .before .before .before .before .before .before .before .before .before .before .put-shape .ensures then c .before .before .before .before .before .before .before .before .before .before .put-scalar .ensures then c .before .before .before .before .before .before .put-strides .ensures then c .before .before .put-mark .ensures))

@@ -18,17 +18,15 @@ put-sparse-spec =
     (λ c. search needs)
     (λ c κs. omega (arith, simp length-append at (c .before .before .before .pre)))
     (λ c κs.
-    let c₁ = c .before .before .before .before .before .before .before in
-    let e : toZ w32 (ofZ w32 (c₁ .args .z)) ≡ c₁ .args .z = search needs in
-    rw e (omega (arith, simp length-append at (c₁ .pre))))
+    let s = c .before .before .before .before .before .before .before .before in
+    let e : toZ w32 (ofZ w32 (s .args .r .sparse)) ≡ s .args .r .sparse = search (needs, c .struct-told .given .1 .1 .1 .1 .1 .1 .1 .1 .1 .1 .1 .1 .1 .1) in
+    rw e (omega (arith, simp length-append at (s .pre))))
     (λ c κs.
-    let c₁ = c .before .before .before .before .before .before .before .before .before .before .before in
-    let e : toZ w32 (ofZ w32 (c₁ .args .z)) ≡ c₁ .args .z = search needs in
-    omega (arith, simp length-append at (c₁ .pre), (rw e at (c .before .before .before .put-small .ensures)) .place))
+    let s = c .before .before .before .before .before .before .before .before .before .before .before .before in
+    let e : toZ w32 (ofZ w32 (s .args .r .sparse)) ≡ s .args .r .sparse = search (needs, c .before .before .before .before .struct-told .given .1 .1 .1 .1 .1 .1 .1 .1 .1 .1 .1 .1 .1 .1) in
+    omega (arith, simp length-append at (s .pre), (rw e at (c .before .before .before .put-small .ensures)) .place))
     (λ c. search needs)
     (λ c.
-    let c₁ = c .before .before .before .before .before .before in
-    let c₂ = c₁ .before .before .before .before in
-    let c₃ = c₂ .before .before .before .before in
-    let e : toZ w32 (ofZ w32 (c₃ .args .z)) ≡ c₃ .args .z = search needs in
-    c₂ .put-bytes .ensures then (rw e at (c₁ .put-small .ensures)) then c .before .before .put-byte .ensures))
+    let s = c .before .before .before .before .before .before .before .before .before .before .before .before .before .before .before in
+    let e : toZ w32 (ofZ w32 (s .args .r .sparse)) ≡ s .args .r .sparse = search (needs, c .before .before .before .before .before .before .before .struct-told .given .1 .1 .1 .1 .1 .1 .1 .1 .1 .1 .1 .1 .1 .1) in
+    c .before .before .before .before .before .before .before .before .before .before .before .put-bytes .ensures then (rw e at (c .before .before .before .before .before .before .put-small .ensures)) then c .before .before .put-byte .ensures))

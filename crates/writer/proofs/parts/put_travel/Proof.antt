@@ -1,24 +1,21 @@
--- Part behind part: the room is enough for all, so for each, and the puts compose.
+-- The traversal strides, or nothing.
 use native.Mathlib.Omega.{arith}
+use mathlib.Core.Bool.{Bool}
+use mathlib.Core.Path.{ap}
 use borrow.Author.Needs.{needs}
-use lib.ListN.{length-append}
-use Rattle.writer.specs.Flat.{travel-text}
-use Rattle.writer.proofs.Rooms.{_then_}
+use lib.ListN.{length}
+use Rattle.writer.specs.Flat.{travel-when}
+use Rattle.writer.proofs.Rooms.{put-as, nothing}
 use Rattle.writer.proofs.parts.put_travel.Statement.{statement}
 use Rattle.writer.proofs.parts.put_travel.Tie as tie
 
 pub put-travel-spec : {M : Type 1} → statement M
-unfolding travel-text
 put-travel-spec =
     tie.close
     (tie.spec
     (λ c. search needs)
-    (λ c κs. omega (arith, simp length-append at (c .before .before .before .pre)))
-    (λ c κs. omega (arith, simp length-append at (c .before .before .before .before .before .before .before .pre)))
     (λ c. search needs)
-    (λ c κs. omega (arith, simp length-append at (c .before .before .before .before .before .before .before .before .before .before .before .before .pre)))
+    (λ c κs. let s = c .before .before .before .before .before .before in (s .pre .0 .traversal, omega (arith, s .pre .1, ap (λ (b : Bool). length (travel-when b (s .args .r))) (c .before .before .before .before .if1 .taken))))
     (λ c. search needs)
-    (λ c.
-    let c₁ = c .before .before .before .before .before .before .before in
-    let c₂ = c₁ .before .before .before .before in
-    c₂ .put-bytes .ensures then c₁ .put-list .ensures then c .before .before .put-bytes2 .ensures))
+    (λ c. put-as (ap (λ (b : Bool). travel-when b (c .before .before .before .before .before .before .before .before .before .args .r)) (c .before .before .before .before .before .before .before .if1 .taken)) (c .before .before .put-clause32 .ensures))
+    (λ c. put-as (ap (λ (b : Bool). travel-when b (c .before .before .args .r)) (c .if1 .left)) (nothing _ _)))

@@ -10,14 +10,7 @@ pub put-tensor-spec : {M : Type 1} → statement M
 put-tensor-spec =
     tie.close
     (tie.spec
+    (λ c κs. (c .before .before .pre .0, omega (arith, simp length-append at (c .before .before .pre .1))))
+    (λ c κs. omega (arith, simp length-append at (c .before .before .before .before .before .before .pre .1)))
     (λ c. search needs)
-    (λ c κs. omega (arith, simp length-append at (c .before .before .before .pre .1)))
-    (λ c κs.
-    let c₁ = c .before .before .before .before .before .before .before in
-    (c₁ .pre .0, omega (arith, simp length-append at (c₁ .pre .1))))
-    (λ c κs. omega (arith, simp length-append at (c .before .before .before .before .before .before .before .before .before .before .before .pre .1)))
-    (λ c. search needs)
-    (λ c.
-    let c₁ = c .before .before .before .before .before .before in
-    let c₂ = c₁ .before .before .before .before in
-    c₂ .put-bytes .ensures then c₁ .put-body .ensures then c .before .before .put-byte .ensures))
+    (λ c. c .before .before .before .before .before .before .put-body .ensures then c .before .before .put-byte .ensures))

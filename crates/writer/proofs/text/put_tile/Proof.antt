@@ -1,8 +1,6 @@
 -- Part behind part: the room is enough for all, so for each, and the puts compose.
 use native.Mathlib.Omega.{arith}
-use mathlib.Core.Path.{sym}
 use borrow.Author.Needs.{needs}
-use lib.Seq.{length-take-le}
 use lib.ListN.{length-append}
 use Rattle.writer.proofs.Rooms.{_then_}
 use Rattle.writer.proofs.text.put_tile.Statement.{statement}
@@ -12,21 +10,8 @@ pub put-tile-spec : {M : Type 1} → statement M
 put-tile-spec =
     tie.close
     (tie.spec
+    (λ c κs. (c .before .before .pre .0, omega (arith, simp length-append at (c .before .before .pre .1))))
+    (λ c κs. omega (arith, simp length-append at (c .before .before .before .before .before .before .pre .1)))
+    (λ c κs. omega (arith, simp length-append at (c .before .before .before .before .before .before .before .before .before .before .pre .1)))
     (λ c. search needs)
-    (λ c κs. omega (arith, simp length-append at (c .before .before .before .before .pre .1)))
-    (λ c. let q = c .before .before .before .before .before .before .before .before .pre .0 in omega (arith, q .shape, q .shape-array))
-    (λ c.
-    let q = c .before .before .before .before .before .before .before .before .before .pre .0 in
-    sym (length-take-le _ _ (omega (arith, q .shape, q .shape-array))))
-    (λ c κs. omega (arith, simp length-append at (c .before .before .before .before .before .before .before .before .before .pre .1)))
-    (λ c κs. omega (arith, simp length-append at (c .before .before .before .before .before .before .before .before .before .before .before .before .before .pre .1)))
-    (λ c κs. omega (
-      arith,
-      simp length-append at (c .before .before .before .before .before .before .before .before .before .before .before .before .before .before .before .before .before .pre .1),
-    ))
-    (λ c. search needs)
-    (λ c.
-    let c₁ = c .before .before .before .before .before .before in
-    let c₂ = c₁ .before .before .before .before in
-    let c₃ = c₂ .before .before .before .before .before in
-    c₃ .put-bytes .ensures then c₂ .put-shape .ensures then c₁ .put-element .ensures then c .before .before .put-byte .ensures))
+    (λ c. c .before .before .before .before .before .before .before .before .before .before .put-shape .ensures then c .before .before .before .before .before .before .put-element .ensures then c .before .before .put-byte .ensures))

@@ -1,0 +1,23 @@
+-- The sparse dimension, or the map.
+use native.Mathlib.Omega.{arith}
+use mathlib.Core.Bool.{Bool}
+use mathlib.Core.Path.{ap}
+use borrow.Author.Needs.{needs}
+use lib.ListN.{length}
+use Rattle.writer.specs.Flat.{last-when}
+use Rattle.writer.proofs.Rooms.{put-as}
+use Rattle.writer.proofs.parts.put_last.Statement.{statement}
+use Rattle.writer.proofs.parts.put_last.Tie as tie
+
+pub put-last-spec : {M : Type 1} → statement M
+put-last-spec =
+    tie.close
+    (tie.spec
+    (λ c κs. let s = c .before .before .before in omega (arith, s .pre .1, ap (λ (b : Bool). length (last-when b (s .args .r))) (c .before .if1 .taken)))
+    (λ c. search needs)
+    (λ c. put-as (ap (λ (b : Bool). last-when b (c .before .before .before .before .before .before .args .r)) (c .before .before .before .before .if1 .taken)) (c .before .before .put-sparse .ensures))
+    (λ c. search needs)
+    (λ c. search needs)
+    (λ c κs. let s = c .before .before .before .before .before .before in (s .pre .0 .map, omega (arith, s .pre .1, ap (λ (b : Bool). length (last-when b (s .args .r))) (c .before .before .before .before .if1 .left))))
+    (λ c. search needs)
+    (λ c. put-as (ap (λ (b : Bool). last-when b (c .before .before .before .before .before .before .before .before .before .args .r)) (c .before .before .before .before .before .before .before .if1 .left)) (c .before .before .put-clause32 .ensures)))

@@ -1,0 +1,18 @@
+-- Part behind part: the room is enough for all, so for each, and the puts compose.
+use native.Mathlib.Omega.{arith}
+use borrow.Author.Needs.{needs}
+use lib.ListN.{length-append}
+use Rattle.writer.proofs.Rooms.{_then_}
+use Rattle.writer.proofs.text.put_view.Statement.{statement}
+use Rattle.writer.proofs.text.put_view.Tie as tie
+
+pub put-view-spec : {M : Type 1} → statement M
+put-view-spec =
+    tie.close
+    (tie.spec
+    (λ c κs. (c .before .before .pre .0, omega (arith, simp length-append at (c .before .before .pre .1))))
+    (λ c κs. (c .before .before .before .before .before .before .pre .0, omega (arith, simp length-append at (c .before .before .before .before .before .before .pre .1))))
+    (λ c κs. (c .before .before .before .before .before .before .before .before .before .before .pre .0, omega (arith, simp length-append at (c .before .before .before .before .before .before .before .before .before .before .pre .1))))
+    (λ c κs. (c .before .before .before .before .before .before .before .before .before .before .before .before .before .before .pre .0, omega (arith, simp length-append at (c .before .before .before .before .before .before .before .before .before .before .before .before .before .before .pre .1))))
+    (λ c. search needs)
+    (λ c. c .before .before .before .before .before .before .before .before .before .before .before .before .before .before .put-lead .ensures then c .before .before .before .before .before .before .before .before .before .before .put-travel .ensures then c .before .before .before .before .before .before .put-inner .ensures then c .before .before .put-last .ensures))
