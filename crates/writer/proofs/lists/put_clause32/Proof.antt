@@ -20,4 +20,7 @@ put-clause32-spec =
     (λ c κs. omega (arith, simp length-append at (c .before .before .before .before .before .before .before .before .before .pre .1)))
     (λ c κs. omega (arith, simp length-append at (c .before .before .before .before .before .before .before .before .before .before .before .before .before .pre .1)))
     (λ c. search needs)
-    (λ c. c .before .before .before .before .before .before .before .before .before .before .before .put-bytes .ensures then c .before .before .before .before .before .before .put-list .ensures then c .before .before .put-bytes2 .ensures))
+    (λ c.
+    let c₁ = c .before .before .before .before .before .before in
+    let c₂ = c₁ .before .before .before .before .before in
+    c₂ .put-bytes .ensures then c₁ .put-list .ensures then c .before .before .put-bytes2 .ensures))

@@ -12,9 +12,17 @@ unfolding body-in
 put-body-spec =
     tie.close
     (tie.spec
-    (λ c κs. (c .before .before .pre .0, omega (arith, simp length-append at (c .before .before .pre .1))))
+    (λ c κs.
+    let s = c .before .before in
+    (s .pre .0, omega (arith, simp length-append at (s .pre .1))))
     (λ c κs. omega (arith, simp length-append at (c .before .before .before .before .before .before .pre .1)))
-    (λ c κs. (c .before .before .before .before .before .before .before .before .before .before .pre .0, omega (arith, simp length-append at (c .before .before .before .before .before .before .before .before .before .before .pre .1))))
+    (λ c κs.
+    let s = c .before .before .before .before .before .before .before .before .before .before in
+    (s .pre .0, omega (arith, simp length-append at (s .pre .1))))
     (λ c κs. omega (arith, simp length-append at (c .before .before .before .before .before .before .before .before .before .before .before .before .before .before .pre .1)))
     (λ c. search needs)
-    (λ c. c .before .before .before .before .before .before .before .before .before .before .before .before .before .before .put-shape .ensures then c .before .before .before .before .before .before .before .before .before .before .put-scalar .ensures then c .before .before .before .before .before .before .put-strides .ensures then c .before .before .put-mark .ensures))
+    (λ c.
+    let c₁ = c .before .before .before .before .before .before in
+    let c₂ = c₁ .before .before .before .before in
+    let c₃ = c₂ .before .before .before .before in
+    c₃ .put-shape .ensures then c₂ .put-scalar .ensures then c₁ .put-strides .ensures then c .before .before .put-mark .ensures))

@@ -1,4 +1,4 @@
--- Part behind part: the room is enough for all, so for each, and the puts compose.
+-- Part behind part: the room is enough for all, so for each, and the puts compose. `q` is what is known of the field and those behind it.
 use native.Mathlib.Omega.{arith}
 use mathlib.Core.Path.{_≡_}
 use borrow.Author.Needs.{needs}
@@ -19,14 +19,18 @@ put-sparse-spec =
     (λ c κs. omega (arith, simp length-append at (c .before .before .before .pre)))
     (λ c κs.
     let s = c .before .before .before .before .before .before .before .before in
-    let e : toZ w32 (ofZ w32 (s .args .r .sparse)) ≡ s .args .r .sparse = search (needs, c .struct-told .given .1 .1 .1 .1 .1 .1 .1 .1 .1 .1 .1 .1 .1 .1) in
+    let q = c .struct-told .given .1 .1 .1 .1 .1 .1 .1 .1 .1 .1 .1 .1 .1 .1 in
+    let e : toZ w32 (ofZ w32 (s .args .r .sparse)) ≡ s .args .r .sparse = search (needs, q) in
     rw e (omega (arith, simp length-append at (s .pre))))
     (λ c κs.
     let s = c .before .before .before .before .before .before .before .before .before .before .before .before in
-    let e : toZ w32 (ofZ w32 (s .args .r .sparse)) ≡ s .args .r .sparse = search (needs, c .before .before .before .before .struct-told .given .1 .1 .1 .1 .1 .1 .1 .1 .1 .1 .1 .1 .1 .1) in
+    let q = c .before .before .before .before .struct-told .given .1 .1 .1 .1 .1 .1 .1 .1 .1 .1 .1 .1 .1 .1 in
+    let e : toZ w32 (ofZ w32 (s .args .r .sparse)) ≡ s .args .r .sparse = search (needs, q) in
     omega (arith, simp length-append at (s .pre), (rw e at (c .before .before .before .put-small .ensures)) .place))
     (λ c. search needs)
     (λ c.
+    let c₁ = c .before .before .before .before .before .before in
     let s = c .before .before .before .before .before .before .before .before .before .before .before .before .before .before .before in
-    let e : toZ w32 (ofZ w32 (s .args .r .sparse)) ≡ s .args .r .sparse = search (needs, c .before .before .before .before .before .before .before .struct-told .given .1 .1 .1 .1 .1 .1 .1 .1 .1 .1 .1 .1 .1 .1) in
-    c .before .before .before .before .before .before .before .before .before .before .before .put-bytes .ensures then (rw e at (c .before .before .before .before .before .before .put-small .ensures)) then c .before .before .put-byte .ensures))
+    let q = c .before .before .before .before .before .before .before .struct-told .given .1 .1 .1 .1 .1 .1 .1 .1 .1 .1 .1 .1 .1 .1 in
+    let e : toZ w32 (ofZ w32 (s .args .r .sparse)) ≡ s .args .r .sparse = search (needs, q) in
+    c₁ .before .before .before .before .before .put-bytes .ensures then (rw e at (c₁ .put-small .ensures)) then c .before .before .put-byte .ensures))

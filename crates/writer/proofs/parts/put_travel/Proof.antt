@@ -15,7 +15,13 @@ put-travel-spec =
     (tie.spec
     (λ c. search needs)
     (λ c. search needs)
-    (λ c κs. let s = c .before .before .before .before .before .before in (s .pre .0 .traversal, omega (arith, s .pre .1, ap (λ (b : Bool). length (travel-when b (s .args .r))) (c .before .before .before .before .if1 .taken))))
+    (λ c κs.
+    let c₁ = c .before .before .before .before in
+    let s = c₁ .before .before in
+    (s .pre .0 .traversal, omega (arith, s .pre .1, ap (λ (b : Bool). length (travel-when b (s .args .r))) (c₁ .if1 .taken))))
     (λ c. search needs)
-    (λ c. put-as (ap (λ (b : Bool). travel-when b (c .before .before .before .before .before .before .before .before .before .args .r)) (c .before .before .before .before .before .before .before .if1 .taken)) (c .before .before .put-clause32 .ensures))
-    (λ c. put-as (ap (λ (b : Bool). travel-when b (c .before .before .args .r)) (c .if1 .left)) (nothing _ _)))
+    (λ c.
+    let c₁ = c .before .before .before .before .before .before .before in
+    put-as (ap (λ (b : Bool). travel-when b (c₁ .before .before .args .r)) (c₁ .if1 .taken)) (c .before .before .put-clause32 .ensures))
+    (λ c.
+    put-as (ap (λ (b : Bool). travel-when b (c .before .before .args .r)) (c .if1 .left)) (nothing _ _)))

@@ -10,8 +10,13 @@ pub put-tile-spec : {M : Type 1} → statement M
 put-tile-spec =
     tie.close
     (tie.spec
-    (λ c κs. (c .before .before .pre .0, omega (arith, simp length-append at (c .before .before .pre .1))))
+    (λ c κs.
+    let s = c .before .before in
+    (s .pre .0, omega (arith, simp length-append at (s .pre .1))))
     (λ c κs. omega (arith, simp length-append at (c .before .before .before .before .before .before .pre .1)))
     (λ c κs. omega (arith, simp length-append at (c .before .before .before .before .before .before .before .before .before .before .pre .1)))
     (λ c. search needs)
-    (λ c. c .before .before .before .before .before .before .before .before .before .before .put-shape .ensures then c .before .before .before .before .before .before .put-element .ensures then c .before .before .put-byte .ensures))
+    (λ c.
+    let c₁ = c .before .before .before .before .before .before in
+    let c₂ = c₁ .before .before .before .before in
+    c₂ .put-shape .ensures then c₁ .put-element .ensures then c .before .before .put-byte .ensures))

@@ -10,9 +10,21 @@ pub put-view-spec : {M : Type 1} → statement M
 put-view-spec =
     tie.close
     (tie.spec
-    (λ c κs. (c .before .before .pre .0, omega (arith, simp length-append at (c .before .before .pre .1))))
-    (λ c κs. (c .before .before .before .before .before .before .pre .0, omega (arith, simp length-append at (c .before .before .before .before .before .before .pre .1))))
-    (λ c κs. (c .before .before .before .before .before .before .before .before .before .before .pre .0, omega (arith, simp length-append at (c .before .before .before .before .before .before .before .before .before .before .pre .1))))
-    (λ c κs. (c .before .before .before .before .before .before .before .before .before .before .before .before .before .before .pre .0, omega (arith, simp length-append at (c .before .before .before .before .before .before .before .before .before .before .before .before .before .before .pre .1))))
+    (λ c κs.
+    let s = c .before .before in
+    (s .pre .0, omega (arith, simp length-append at (s .pre .1))))
+    (λ c κs.
+    let s = c .before .before .before .before .before .before in
+    (s .pre .0, omega (arith, simp length-append at (s .pre .1))))
+    (λ c κs.
+    let s = c .before .before .before .before .before .before .before .before .before .before in
+    (s .pre .0, omega (arith, simp length-append at (s .pre .1))))
+    (λ c κs.
+    let s = c .before .before .before .before .before .before .before .before .before .before .before .before .before .before in
+    (s .pre .0, omega (arith, simp length-append at (s .pre .1))))
     (λ c. search needs)
-    (λ c. c .before .before .before .before .before .before .before .before .before .before .before .before .before .before .put-lead .ensures then c .before .before .before .before .before .before .before .before .before .before .put-travel .ensures then c .before .before .before .before .before .before .put-inner .ensures then c .before .before .put-last .ensures))
+    (λ c.
+    let c₁ = c .before .before .before .before .before .before in
+    let c₂ = c₁ .before .before .before .before in
+    let c₃ = c₂ .before .before .before .before in
+    c₃ .put-lead .ensures then c₂ .put-travel .ensures then c₁ .put-inner .ensures then c .before .before .put-last .ensures))
