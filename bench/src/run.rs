@@ -8,6 +8,7 @@ use crate::report::{self, Measured};
 use crate::stats::least;
 use crate::table::Table;
 use crate::{calls, check, insert, machine, plot};
+use std::env::consts::ARCH;
 use std::fs;
 use std::io::{self, ErrorKind, Write};
 use std::path::{Path, PathBuf};
@@ -52,7 +53,7 @@ pub fn run(wanted: &Wanted) -> Result<(), String> {
         say(&table.plain())?;
     }
     if let (Some(path), Some(page)) = (&wanted.markdown, page) {
-        let page = insert::between(&page, &markdown(&machine, &tables));
+        let page = insert::between(&page, ARCH, &markdown(&machine, &tables));
         store(path, &page?)?;
     }
     if let Some(path) = &wanted.svg {
@@ -103,7 +104,7 @@ fn grown(first: f64, last: f64) -> Result<(), String> {
 fn read_page(path: &Path) -> Result<String, String> {
     let told = |why: String| format!("{}: {why}", path.display());
     let page = fs::read_to_string(path).map_err(|why| told(why.to_string()))?;
-    insert::between(&page, "").map_err(told)?;
+    insert::between(&page, ARCH, "").map_err(told)?;
     Ok(page)
 }
 
