@@ -17,7 +17,7 @@ use Rattle.meaning.specs.Ordinary.{refused}
 use Rattle.meaning.specs.declared.Reading.{Reading}
 use Rattle.meaning.specs.declared.Refusal.the-variants.{NotNormal}
 use Rattle.collector.specs.declared.Fed.the-variants.{Taken, NotInOrder}
-use Rattle.collector.specs.Collecting.{zeros, in-order, held, laid, fresh, joined, told, fed, answer, answered, ended}
+use Rattle.collector.specs.Collecting.{zeros, in-order, held, laid, fresh, joined, told, fed, answer, answered, ended, number}
 use Rattle.collector.specs.Parts.{of-parts}
 
 -- ── only zeros ──
@@ -157,10 +157,44 @@ module _ (cap size : ℕ) (c : Collector) where
   unfolding told fed
   feed-taken p y e = rw y (refl, e)
 
+  pub end-kept : in-order size c ≡ false → c ≡ ended size c
+  unfolding ended
+  end-kept n = rw n
+
   pub end-refused : {r : Reading} → in-order size c ≡ false → r ≡ refused cap NotNormal 0 → (r ≡ answered cap size c) × (c ≡ ended size c)
-  unfolding answered ended
-  end-refused n e = rw n (e, refl)
+  unfolding answered
+  end-refused n e = (rw n e, end-kept n)
+
+  pub end-fresh : in-order size c ≡ true → fresh size ≡ ended size c
+  unfolding ended
+  end-fresh y = rw y
 
   pub end-answered : {r : Reading} → in-order size c ≡ true → r ≡ answer cap size (held c) → (r ≡ answered cap size c) × (fresh size ≡ ended size c)
-  unfolding answered ended
-  end-answered y e = rw y (e, refl)
+  unfolding answered
+  end-answered y e = (rw y e, end-fresh y)
+
+  -- ── what a verdict tells ──
+
+  pub is-taken : in-order size c ≡ true → Taken ≡ told size c
+  unfolding told
+  is-taken y = rw y
+
+  pub is-refused : in-order size c ≡ false → NotInOrder ≡ told size c
+  unfolding told
+  is-refused n = rw n
+
+  pub taken-tells : Taken ≡ told size c → in-order size c ≡ true
+  unfolding told
+  taken-tells e = by (in-order size c) e
+    where
+      by : (d : Bool) → Taken ≡ (if d then Taken else NotInOrder) → d ≡ true
+      by true e = refl
+      by false e = let z : _≡_ {A = ℕ} 0 6 = ap number e in let f : ⊥ = omega arith in absurd f
+
+  pub refused-tells : NotInOrder ≡ told size c → in-order size c ≡ false
+  unfolding told
+  refused-tells e = by (in-order size c) e
+    where
+      by : (d : Bool) → NotInOrder ≡ (if d then Taken else NotInOrder) → d ≡ false
+      by true e = let z : _≡_ {A = ℕ} 6 0 = ap number e in let f : ⊥ = omega arith in absurd f
+      by false e = refl

@@ -27,7 +27,7 @@ fn all_zero(part: &[u8]) -> bool
 }
 
 // Whether the number is at most the limit, the room past it is zero, and an over-full one has number 0.
-fn in_order(bytes: &[u8], len: usize, over: bool) -> bool
+pub(crate) fn in_order(bytes: &[u8], len: usize, over: bool) -> bool
     requires { ⌜ length (now bytes) ≡ 1024 ⌝ }
     ensures { λ r. ⌜ r ≡ in-order 1024 (of-parts (now (bytes .entry)) len over) ⌝ }
 {
@@ -53,13 +53,13 @@ fn put(bytes: &mut [u8], at: usize, piece: &[u8])
 }
 
 // The number and the mark, beside the bytes.
-struct Marks {
-    len: usize,
-    over: bool,
+pub(crate) struct Marks {
+    pub(crate) len: usize,
+    pub(crate) over: bool,
 }
 
 // A piece, for a collector in order: laid behind the bytes so far; where it would pass the limit, only zeros are left.
-fn join(bytes: &mut [u8; SIZE], len: usize, over: bool, piece: &[u8]) -> Marks
+pub(crate) fn join(bytes: &mut [u8; SIZE], len: usize, over: bool, piece: &[u8]) -> Marks
     requires { ⌜ (length (now bytes) ≡ 1024) × (in-order 1024 (of-parts (now bytes) len over) ≡ true) ⌝ }
     ensures { λ r. ⌜ of-parts (now (bytes .exit)) (r .len) (r .over) ≡ laid 1024 (joined 1024 (held (of-parts (now (bytes .entry)) len over)) (now (piece .entry))) ⌝ }
 {
@@ -78,7 +78,7 @@ fn join(bytes: &mut [u8; SIZE], len: usize, over: bool, piece: &[u8]) -> Marks
 }
 
 // The end's answer, for a collector in order.
-fn read(bytes: &[u8], len: usize, over: bool) -> Reading
+pub(crate) fn read(bytes: &[u8], len: usize, over: bool) -> Reading
     requires { ⌜ (length (now bytes) ≡ 1024) × (in-order 1024 (of-parts (now bytes) len over) ≡ true) ⌝ }
     ensures { λ r. ⌜ r ≡ answer 8 1024 (held (of-parts (now (bytes .entry)) len over)) ⌝ }
 {
