@@ -44,7 +44,7 @@ module _ (size : ℕ) where
       by true f = rw (append-assoc s p q)
       by false f =
           let g : leb (length (s ++ (p ++ q))) size ≡ false
-                = lt-leb (length (s ++ (p ++ q))) size (let k = f refl in let e = ap length (append-assoc s p q) in let l = length-append (s ++ p) q in omega arith)
+          = lt-leb (length (s ++ (p ++ q))) size (let k = f refl in let e = ap length (append-assoc s p q) in let l = length-append (s ++ p) q in omega arith)
           in rw g
 
   joined-all : (h : Held) (ps : List Text) → Fits h → foldl (joined size) h ps ≡ joined size h (flatten ps)

@@ -32,10 +32,10 @@ pub(crate) fn in_order(bytes: &[u8], len: usize, over: bool) -> bool
     ensures { λ r. ⌜ r ≡ in-order 1024 (of-parts (now (bytes .entry)) len over) ⌝ }
 {
     if SIZE < len {
-        return false;
+        return false; // no such number
     }
     if over & (len != 0) {
-        return false;
+        return false; // over-full with a number
     }
     all_zero(&bytes[len..])
 }
@@ -45,10 +45,10 @@ fn put(bytes: &mut [u8], at: usize, piece: &[u8])
     requires { ⌜ at + length (now piece) ≤ length (now bytes) ⌝ }
     ensures { λ _. ⌜ now (bytes .exit) ≡ paste (now (bytes .entry)) at (now (piece .entry)) (length (now (piece .entry))) ⌝ }
 {
-    let mut i = 0;
-    while i < piece.len() {
-        bytes[at + i] = piece[i];
-        i += 1;
+    let mut laid = 0;
+    while laid < piece.len() {
+        bytes[at + laid] = piece[laid];
+        laid += 1;
     }
 }
 
@@ -64,11 +64,11 @@ pub(crate) fn join(bytes: &mut [u8; SIZE], len: usize, over: bool, piece: &[u8])
     ensures { λ r. ⌜ of-parts (now (bytes .exit)) (r .len) (r .over) ≡ laid 1024 (joined 1024 (held (of-parts (now (bytes .entry)) len over)) (now (piece .entry))) ⌝ }
 {
     if over {
-        return Marks { len: 0, over: true };
+        return Marks { len: 0, over: true }; // as it was
     }
     if SIZE - len < piece.len() {
         *bytes = [0u8; SIZE];
-        return Marks { len: 0, over: true };
+        return Marks { len: 0, over: true }; // from now on
     }
     put(bytes, len, piece);
     Marks {

@@ -21,6 +21,6 @@ end-parts-spec =
     (λ c κs. search needs)
     (λ c κs. search needs)
     (λ c. let a = c .before .before .before .before .before .before .args in
-          L.end-refused 8 1024 (of-parts (a .bytes .now) (a .len .now) (a .over .now)) (sym (c .before .before .in-order .ensures) ∙ not-true _ (c .before .if1 .taken)) (c .refuse .ensures))
+    L.end-refused 8 1024 (of-parts (a .bytes .now) (a .len .now) (a .over .now)) (sym (c .before .before .in-order .ensures) ∙ not-true _ (c .before .if1 .taken)) (c .refuse .ensures))
     (λ c κs. (search needs, sym (c .before .before .before .in-order .ensures) ∙ not-false _ (c .before .before .if1 .left)))
     answered)

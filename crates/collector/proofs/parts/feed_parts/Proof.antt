@@ -13,7 +13,7 @@ feed-parts-spec =
     (tie.spec
     (λ c κs. search needs)
     (λ c. let a = c .before .before .before .before .before .before .args in
-          L.feed-refused 8 1024 (of-parts (a .bytes .now) (a .len .now) (a .over .now)) (a .piece .now) (sym (c .before .in-order .ensures) ∙ not-true _ (c .if1 .taken)))
+    L.feed-refused 8 1024 (of-parts (a .bytes .now) (a .len .now) (a .over .now)) (a .piece .now) (sym (c .before .in-order .ensures) ∙ not-true _ (c .if1 .taken)))
     (λ c κs. (search needs, sym (c .before .before .in-order .ensures) ∙ not-false _ (c .before .if1 .left)))
     (λ c. let a = c .before .before .before .before .before .before .before .before .args in
-          L.feed-taken 8 1024 (of-parts (a .bytes .now) (a .len .now) (a .over .now)) (a .piece .now) (sym (c .before .before .before .in-order .ensures) ∙ not-false _ (c .before .before .if1 .left)) (c .join .ensures)))
+    L.feed-taken 8 1024 (of-parts (a .bytes .now) (a .len .now) (a .over .now)) (a .piece .now) (sym (c .before .before .before .in-order .ensures) ∙ not-false _ (c .before .before .if1 .left)) (c .join .ensures)))

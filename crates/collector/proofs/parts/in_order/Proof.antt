@@ -19,4 +19,4 @@ in-order-spec =
     (λ c. search needs)
     (λ c κs. search needs)
     (λ c. let a = c .before .before .before .before .before .args in
-          c .all-zero .ensures ∙ ap zeros (rest (a .bytes .now) (a .len)) ∙ L.by-room 1024 (a .bytes .now) (a .len) (a .over) (search needs) (c .before .before .if2 .left)))
+    c .all-zero .ensures ∙ ap zeros (rest (a .bytes .now) (a .len)) ∙ L.by-room 1024 (a .bytes .now) (a .len) (a .over) (search needs) (c .before .before .if2 .left)))

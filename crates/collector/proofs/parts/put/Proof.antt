@@ -1,4 +1,4 @@
--- `put` meets its contract: i bytes are laid in.
+-- `put` meets its contract: so many bytes are laid in.
 use Prim.Native.Nat.{_-_, _≤_}
 use mathlib.Core.Path.{_≡_, refl}
 use borrow.Author.Needs.{needs}
@@ -9,10 +9,10 @@ use Rattle.collector.proofs.parts.put.Statement.{statement}
 use Rattle.collector.proofs.parts.put.Tie as tie
 
 abbrev Inv : tie.InvT-loop
-Inv bytes₀ at piece i₀ bytes i = L.Putting bytes₀ at piece bytes i
+Inv bytes₀ at piece laid₀ bytes laid = L.Putting bytes₀ at piece bytes laid
 
 abbrev μ : tie.MeasureT-loop
-μ bytes₀ at piece i₀ bytes i = length piece - i
+μ bytes₀ at piece laid₀ bytes laid = length piece - laid
 
 pub put-spec : {M : Type 1} → statement M
 put-spec =

@@ -13,6 +13,6 @@ ended-spec =
     (λ c. search needs)
     (λ c κs. search needs)
     (λ c. let s = c .before .before in
-          L.end-kept 8 1024 (s .args .c) (L.refused-tells 8 1024 (s .args .c) (sym (c .enum-told .given .1) ∙ s .pre)))
+    L.end-kept 8 1024 (s .args .c) (L.refused-tells 8 1024 (s .args .c) (sym (c .enum-told .given .1) ∙ s .pre)))
     (λ c. let s = c .before .before .before in
-          c .fresh .ensures ∙ L.end-fresh 8 1024 (s .args .c) (L.taken-tells 8 1024 (s .args .c) (sym (c .before .enum-told2 .given .1) ∙ s .pre))))
+    c .fresh .ensures ∙ L.end-fresh 8 1024 (s .args .c) (L.taken-tells 8 1024 (s .args .c) (sym (c .before .enum-told2 .given .1) ∙ s .pre))))
