@@ -4,11 +4,11 @@ use native.Mathlib.Nat.{sub-zero}
 use native.Mathlib.Numerals.{add-one}
 use native.Mathlib.Omega.{arith}
 use mathlib.Core.Bool.{Bool, true, false, _&&_, and-self, and-true, and-false, and-assoc, not, false≢true}
-use mathlib.Core.List.{List, [], _∷_, _++_}
+use mathlib.Core.List.{List, [], _∷_, _++_, append-nil}
 use mathlib.Core.Path.{_≡_, refl, sym, ap, _∙_}
-use borrow.Author.Tests.{leb-true, eqb-true, le-leb, lt-leb, ne-eqb}
+use borrow.Author.Tests.{leb-true, eqb-true, le-leb, lt-leb, eq-eqb, ne-eqb}
 use lib.Dec.{eqb, leb}
-use lib.ListN.{length, take, drop, getD, set, length-set, replicate, length-append, length-drop, take-append-drop, drop-of-length-le}
+use lib.ListN.{length, take, drop, getD, set, length-set, replicate, length-replicate, length-append, length-drop, take-append-drop, drop-of-length-le}
 use lib.Seq.{take-all, take-length, length-take-le, drop-drop, paste, paste-zero, paste-suc}
 use Rattle.lexis.specs.Text.{Text, if_then_else_}
 use Rattle.lexis.proofs.Lists.{view}
@@ -71,37 +71,50 @@ put-step {d} {s} {t} {at} {i} p h k = record {
 pub put-end : {d s t : Text} {at i : ℕ} → Putting d at s t i → length s ≤ i → t ≡ paste d at s (length s)
 put-end {d} {s} {t} {at} {i} p h = let e : i ≡ length s = omega (arith, p .within) in p .same ∙ ap (λ (n : ℕ). paste d at s n) e
 
+-- zeros laid everywhere
+pub cleared : (b z : Text) (n : ℕ) (t : Text) → length b ≡ n → z ≡ replicate n 0 → t ≡ paste b 0 z (length z) → t ≡ replicate n 0
+cleared b z n t l f e =
+    let k : length z ≡ n = ap length f ∙ length-replicate n 0 in
+    let d : drop (0 + length z) b ≡ [] = drop-of-length-le b {i = 0 + length z} (omega arith) in
+    e ∙ (λ i. take-length z i ++ d i) ∙ append-nil z ∙ f
+
 -- ── in order ──
 
 module _ (size : ℕ) (b : Text) (n : ℕ) (o : Bool) where
   abbrev c : Collector
   c = of-parts b n o
 
+  -- there is no room of this size
+  pub no-room : (length b ≡ size → ⊥) → false ≡ in-order size c
+  unfolding in-order
+  no-room h = rw (ne-eqb (length b) size h)
+
   pub too-many : size < n → false ≡ in-order size c
   unfolding in-order
-  too-many h = rw (lt-leb n size h)
-
-  -- else the room past the number decides
-  pub by-room : n ≤ size → o && not (eqb n 0) ≡ false → zeros (drop n b) ≡ in-order size c
-  unfolding in-order
-  by-room h e = rw (le-leb n size h) (by o n e)
-    where
-      by : (o : Bool) (n : ℕ) → o && not (eqb n 0) ≡ false → zeros (drop n b) ≡ zeros (drop n b) && (if o then eqb n 0 && zeros b else true)
-      by false n e = sym (and-true (zeros (drop n b)))
-      by true zero e = sym (and-self (zeros b))
-      by true (suc n) e = let k : eqb (suc n) 0 ≡ false = ne-eqb (suc n) 0 (λ h. omega arith) in absurd (false≢true (sym (rw k at e)))
+  too-many h = rw (lt-leb n size h, and-false (eqb (length b) size))
 
   -- an over-full one has number 0
   pub with-number : o && not (eqb n 0) ≡ true → false ≡ in-order size c
   unfolding in-order
-  with-number e = by o (eqb n 0) (leb n size && zeros (drop n b)) e
+  with-number e = by o (eqb n 0) (eqb (length b) size && leb n size && zeros (drop n b)) e
     where
       by : (o d r : Bool) → o && not d ≡ true → false ≡ r && (if o then d && zeros b else true)
       by true false r e = sym (and-false r)
       by true true r e = absurd (false≢true e)
       by false d r e = absurd (false≢true e)
 
+  -- else the room past the number decides
+  pub by-room : length b ≡ size → n ≤ size → o && not (eqb n 0) ≡ false → zeros (drop n b) ≡ in-order size c
+  unfolding in-order
+  by-room l h e = rw (eq-eqb (length b) size l, le-leb n size h) (by o n e)
+    where
+      by : (o : Bool) (n : ℕ) → o && not (eqb n 0) ≡ false → zeros (drop n b) ≡ zeros (drop n b) && (if o then eqb n 0 && zeros b else true)
+      by false n e = sym (and-true (zeros (drop n b)))
+      by true zero e = sym (and-self (zeros b))
+      by true (suc n) e = let k : eqb (suc n) 0 ≡ false = ne-eqb (suc n) 0 (λ h. omega arith) in absurd (false≢true (sym (rw k at e)))
+
   pub record Ordered : Type 0 where
+    pub full : length b ≡ size
     pub bound : n ≤ size
     pub room : zeros (drop n b) ≡ true
     pub only : o ≡ true → zeros b ≡ true
@@ -109,29 +122,37 @@ module _ (size : ℕ) (b : Text) (n : ℕ) (o : Bool) where
   pub ordered : in-order size c ≡ true → Ordered
   unfolding in-order
   ordered e =
-      let f = first (leb n size && zeros (drop n b)) (if o then eqb n 0 && zeros b else true) e in
-      let g = second (leb n size && zeros (drop n b)) (if o then eqb n 0 && zeros b else true) e in
+      let z = zeros (drop n b) in
+      let l = leb n size in
+      let w : Bool = if o then eqb n 0 && zeros b else true in
+      let f = first (eqb (length b) size && l && z) w e in
+      let g = second (eqb (length b) size && l && z) w e in
+      let h = first (eqb (length b) size && l) z f in
       record {
-        bound = leb-true n size (first (leb n size) (zeros (drop n b)) f);
-        room = second (leb n size) (zeros (drop n b)) f;
-        only = λ h. second (eqb n 0) (zeros b) (ap (λ (t : Bool). if t then eqb n 0 && zeros b else true) (sym h) ∙ g);
+        full = eqb-true (length b) size (first (eqb (length b) size) l h);
+        bound = leb-true n size (second (eqb (length b) size) l h);
+        room = second (eqb (length b) size && l) z f;
+        only = λ k. second (eqb n 0) (zeros b) (ap (λ (t : Bool). if t then eqb n 0 && zeros b else true) (sym k) ∙ g);
       }
 
   -- ── a piece joins ──
 
-  module _ (p : Text) (full : length b ≡ size) (y : in-order size c ≡ true) where
+  module _ (p : Text) (y : in-order size c ≡ true) where
+    full : length b ≡ size
+    full = ordered y .full
+
     -- over-full it stays, as it was
     pub stays : o ≡ true → of-parts b 0 true ≡ laid size (joined size (held c) p)
     unfolding held
     stays h = rw h (ap (λ (l : Text). of-parts l 0 true) (blank b (ordered y .only h) ∙ ap (λ (m : ℕ). replicate m 0) full))
 
     long : length (take n b ++ p) ≡ n + length p
-    long = length-append (take n b) p ∙ ap (λ (m : ℕ). m + length p) (length-take-le n b (let k = ordered y .bound in omega arith))
+    long = length-append (take n b) p ∙ ap (λ (m : ℕ). m + length p) (length-take-le n b (let k = ordered y .bound in let f = full in omega arith))
 
     -- past the limit only zeros are left
-    pub passes : o ≡ false → size - n < length p → of-parts (replicate size 0) 0 true ≡ laid size (joined size (held c) p)
+    pub passes : (t : Text) → o ≡ false → size - n < length p → t ≡ replicate size 0 → of-parts t 0 true ≡ laid size (joined size (held c) p)
     unfolding held
-    passes h k = let g : leb (length (take n b ++ p)) size ≡ false = lt-leb _ size (let l = long in let m = ordered y .bound in omega arith) in rw (h, g)
+    passes t h k e = let g : leb (length (take n b ++ p)) size ≡ false = lt-leb _ size (let l = long in let m = ordered y .bound in omega arith) in rw (h, g, e)
 
     -- what stands behind the piece is as many zeros as there is room
     behind : (m : ℕ) → m ≡ n + length p → drop (n + length p) b ≡ replicate (size - m) 0
@@ -145,6 +166,10 @@ module _ (size : ℕ) (b : Text) (n : ℕ) (o : Bool) where
     joins t h k e =
         let g : leb (length (take n b ++ p)) size ≡ true = le-leb _ size (let l = long in let m = ordered y .bound in omega arith) in
         rw (h, g) (λ i. of-parts ((e ∙ ap (λ (l : Text). take n b ++ l ++ drop (n + length p) b) (take-length p) ∙ ap (λ (l : Text). take n b ++ p ++ l) (behind (length (take n b ++ p)) long)) i) (sym long i) false)
+
+pub emptied : (size : ℕ) {b : Text} → b ≡ replicate size 0 → of-parts b 0 false ≡ fresh size
+unfolding fresh
+emptied size e = ap (λ (l : Text). of-parts l 0 false) e ∙ ap (λ (n : ℕ). of-parts (replicate n 0) 0 false) (sym (sub-zero size))
 
 -- ── the answers, by the order test ──
 
@@ -169,9 +194,12 @@ module _ (cap size : ℕ) (c : Collector) where
   unfolding ended
   end-fresh y = rw y
 
-  pub end-answered : {r : Reading} → in-order size c ≡ true → r ≡ answer cap size (held c) → (r ≡ answered cap size c) × (fresh size ≡ ended size c)
+  pub end-reads : {r : Reading} → in-order size c ≡ true → r ≡ answer cap size (held c) → r ≡ answered cap size c
   unfolding answered
-  end-answered y e = (rw y e, end-fresh y)
+  end-reads y e = rw y e
+
+  pub end-answered : {r : Reading} {d : Collector} → in-order size c ≡ true → r ≡ answer cap size (held c) → d ≡ fresh size → (r ≡ answered cap size c) × (d ≡ ended size c)
+  end-answered y e f = (end-reads y e, f ∙ end-fresh y)
 
   -- ── what a verdict tells ──
 

@@ -5,9 +5,9 @@ use native.Mathlib.Omega.{arith}
 use mathlib.Core.Bool.{Bool, true, false, false≢true}
 use mathlib.Core.List.{List, [], _∷_, _++_, append-assoc, append-nil, flatten, foldl, foldl-append}
 use mathlib.Core.Path.{_≡_, refl, sym, ap, subst, _∙_}
-use borrow.Author.Tests.{leb-true, leb-false, le-leb, lt-leb}
+use borrow.Author.Tests.{leb-true, leb-false, le-leb, lt-leb, eq-eqb}
 use lib.Dec.{leb}
-use lib.ListN.{length, take, drop, replicate, length-append}
+use lib.ListN.{length, take, drop, replicate, length-append, length-replicate}
 use lib.Seq.{take-append-seam, drop-append-seam}
 use Rattle.lexis.specs.Text.{Text, if_then_else_}
 use Rattle.meaning.specs.Ordinary.{ordinary, refused}
@@ -56,8 +56,10 @@ module _ (size : ℕ) where
 
   laid-in-order : (h : Held) → Fits h → in-order size (laid size h) ≡ true
   unfolding in-order
-  laid-in-order (holds s) f = rw (le-leb (length s) size f, drop-append-seam s (replicate (size - length s) 0), zeros-blank (size - length s))
-  laid-in-order over-full f = rw (le-leb 0 size (omega arith), zeros-blank size)
+  laid-in-order (holds s) f =
+      let l : length (s ++ replicate (size - length s) 0) ≡ size = length-append s (replicate (size - length s) 0) ∙ ap (λ (k : ℕ). length s + k) (length-replicate {A = ℕ} (size - length s) 0) ∙ omega arith in
+      rw (eq-eqb _ size l, le-leb (length s) size f, drop-append-seam s (replicate (size - length s) 0), zeros-blank (size - length s))
+  laid-in-order over-full f = rw (eq-eqb _ size (length-replicate {A = ℕ} size 0), le-leb 0 size (omega arith), zeros-blank size)
 
   held-laid : (h : Held) → held (laid size h) ≡ h
   unfolding held

@@ -19,9 +19,14 @@ abbrev pub zeros : Text → Bool
 zeros [] = true
 zeros (b ∷ s) = eqb b 0 && zeros s
 
--- the number is at most the limit, the room past it is zero, and an over-full one has number 0 and only zeros
+-- there is room for as many bytes as the limit (a `Collector` has it, a caller's parts may not); the number is at most the limit,
+-- the room past it is zero, and an over-full one has number 0 and only zeros
 unfoldable pub in-order : ℕ → Collector → Bool
-in-order size c = leb (c .len) size && zeros (drop (c .len) (c .bytes)) && (if c .over then eqb (c .len) 0 && zeros (c .bytes) else true)
+in-order size c =
+    eqb (length (c .bytes)) size
+    && leb (c .len) size
+    && zeros (drop (c .len) (c .bytes))
+    && (if c .over then eqb (c .len) 0 && zeros (c .bytes) else true)
 
 -- ── what a collector in order holds ──
 

@@ -8,7 +8,7 @@ use meaning::refuse;
 ghost use Prim.Native.Nat.{_+_, _≤_};
 ghost use mathlib.Core.Bool.{true};
 ghost use mathlib.Core.Path.{_≡_};
-ghost use lib.ListN.{length};
+ghost use lib.ListN.{length, replicate};
 ghost use lib.Seq.{paste};
 ghost use Rattle.collector.specs.Collecting.{zeros, in-order, held, laid, joined, answer, told, fed, answered, ended};
 ghost use Rattle.collector.specs.Parts.{of-parts};
@@ -26,11 +26,13 @@ fn all_zero(part: &[u8]) -> bool
     zero
 }
 
-// Whether the number is at most the limit, the room past it is zero, and an over-full one has number 0.
+// Whether there is room for the limit, the number is at most that, the room past it is zero, and an over-full one has number 0.
 pub(crate) fn in_order(bytes: &[u8], len: usize, over: bool) -> bool
-    requires { ⌜ length (now bytes) ≡ 1024 ⌝ }
     ensures { λ r. ⌜ r ≡ in-order 1024 (of-parts (now (bytes .entry)) len over) ⌝ }
 {
+    if bytes.len() != SIZE {
+        return false; // no room of this size
+    }
     if SIZE < len {
         return false; // no such number
     }
@@ -52,6 +54,15 @@ fn put(bytes: &mut [u8], at: usize, piece: &[u8])
     }
 }
 
+// Lays zeros everywhere.
+fn clear(bytes: &mut [u8])
+    requires { ⌜ length (now bytes) ≡ 1024 ⌝ }
+    ensures { λ _. ⌜ now (bytes .exit) ≡ replicate 1024 0 ⌝ }
+{
+    let zeros = [0u8; SIZE];
+    put(bytes, 0, &zeros);
+}
+
 // The number and the mark, beside the bytes.
 pub(crate) struct Marks {
     pub(crate) len: usize,
@@ -59,15 +70,15 @@ pub(crate) struct Marks {
 }
 
 // A piece, for a collector in order: laid behind the bytes so far; where it would pass the limit, only zeros are left.
-pub(crate) fn join(bytes: &mut [u8; SIZE], len: usize, over: bool, piece: &[u8]) -> Marks
-    requires { ⌜ (length (now bytes) ≡ 1024) × (in-order 1024 (of-parts (now bytes) len over) ≡ true) ⌝ }
+pub(crate) fn join(bytes: &mut [u8], len: usize, over: bool, piece: &[u8]) -> Marks
+    requires { ⌜ in-order 1024 (of-parts (now bytes) len over) ≡ true ⌝ }
     ensures { λ r. ⌜ of-parts (now (bytes .exit)) (r .len) (r .over) ≡ laid 1024 (joined 1024 (held (of-parts (now (bytes .entry)) len over)) (now (piece .entry))) ⌝ }
 {
     if over {
         return Marks { len: 0, over: true }; // as it was
     }
     if SIZE - len < piece.len() {
-        *bytes = [0u8; SIZE];
+        clear(bytes);
         return Marks { len: 0, over: true }; // from now on
     }
     put(bytes, len, piece);
@@ -79,7 +90,7 @@ pub(crate) fn join(bytes: &mut [u8; SIZE], len: usize, over: bool, piece: &[u8])
 
 // The end's answer, for a collector in order.
 pub(crate) fn read(bytes: &[u8], len: usize, over: bool) -> Reading
-    requires { ⌜ (length (now bytes) ≡ 1024) × (in-order 1024 (of-parts (now bytes) len over) ≡ true) ⌝ }
+    requires { ⌜ in-order 1024 (of-parts (now bytes) len over) ≡ true ⌝ }
     ensures { λ r. ⌜ r ≡ answer 8 1024 (held (of-parts (now (bytes .entry)) len over)) ⌝ }
 {
     if over {
@@ -88,8 +99,8 @@ pub(crate) fn read(bytes: &[u8], len: usize, over: bool) -> Reading
     ordinary::parse(&bytes[..len])
 }
 
-// A piece, with the collector's parts lent one by one.
-pub fn feed_parts(bytes: &mut [u8; SIZE], len: &mut usize, over: &mut bool, piece: &[u8]) -> Fed
+// A piece, with the collector's parts lent one by one; bytes that are not of the limit's number are not in order.
+pub fn feed_parts(bytes: &mut [u8], len: &mut usize, over: &mut bool, piece: &[u8]) -> Fed
     ensures { λ r. ⌜ (r ≡ told 1024 (of-parts (now (bytes .entry)) (now (len .entry)) (now (over .entry))))
         × (of-parts (now (bytes .exit)) (now (len .exit)) (now (over .exit)) ≡ fed 1024 (of-parts (now (bytes .entry)) (now (len .entry)) (now (over .entry))) (now (piece .entry))) ⌝ }
 {
@@ -103,7 +114,7 @@ pub fn feed_parts(bytes: &mut [u8; SIZE], len: &mut usize, over: &mut bool, piec
 }
 
 // The end, with the collector's parts lent one by one.
-pub fn end_parts(bytes: &mut [u8; SIZE], len: &mut usize, over: &mut bool) -> Reading
+pub fn end_parts(bytes: &mut [u8], len: &mut usize, over: &mut bool) -> Reading
     ensures { λ r. ⌜ (r ≡ answered 8 1024 (of-parts (now (bytes .entry)) (now (len .entry)) (now (over .entry))))
         × (of-parts (now (bytes .exit)) (now (len .exit)) (now (over .exit)) ≡ ended 1024 (of-parts (now (bytes .entry)) (now (len .entry)) (now (over .entry)))) ⌝ }
 {
@@ -111,7 +122,7 @@ pub fn end_parts(bytes: &mut [u8; SIZE], len: &mut usize, over: &mut bool) -> Re
         return refuse(Refusal::NotNormal, 0);
     }
     let r = read(bytes, *len, *over);
-    *bytes = [0u8; SIZE];
+    clear(bytes);
     *len = 0;
     *over = false;
     r

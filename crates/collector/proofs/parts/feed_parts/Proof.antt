@@ -12,8 +12,10 @@ feed-parts-spec =
     tie.close
     (tie.spec
     (λ c κs. search needs)
+    (λ c. search needs)
     (λ c. let a = c .before .before .before .before .before .before .args in
     L.feed-refused 8 1024 (of-parts (a .bytes .now) (a .len .now) (a .over .now)) (a .piece .now) (sym (c .before .in-order .ensures) ∙ not-true _ (c .if1 .taken)))
-    (λ c κs. (search needs, sym (c .before .before .in-order .ensures) ∙ not-false _ (c .before .if1 .left)))
-    (λ c. let a = c .before .before .before .before .before .before .before .before .args in
-    L.feed-taken 8 1024 (of-parts (a .bytes .now) (a .len .now) (a .over .now)) (a .piece .now) (sym (c .before .before .before .in-order .ensures) ∙ not-false _ (c .before .before .if1 .left)) (c .join .ensures)))
+    (λ c κs. sym (c .before .before .in-order .ensures) ∙ not-false _ (c .before .if1 .left))
+    (λ c. search needs)
+    (λ c. let s = c .before .before .before .before .before in let a = s .before .before .before .before .before .args in
+    L.feed-taken 8 1024 (of-parts (a .bytes .now) (a .len .now) (a .over .now)) (a .piece .now) (sym (s .in-order .ensures) ∙ not-false _ (c .before .before .before .before .if1 .left)) (c .before .before .join .ensures)))

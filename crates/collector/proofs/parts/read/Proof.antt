@@ -16,8 +16,9 @@ returns c = rw (c .before .if1 .taken) (c .refuse .ensures)
 counted : tie.Need-slice-aggregate-parse
 counted c =
     let a = c .before .before .before .args in
-    let h = L.ordered 1024 (a .bytes .now) (a .len) (a .over) (c .before .before .before .pre .1) .bound in
-    let e = c .before .before .before .pre .0 in
+    let k = L.ordered 1024 (a .bytes .now) (a .len) (a .over) (c .before .before .before .pre) in
+    let h = k .bound in
+    let e = k .full in
     sym (length-take-le (a .len) (a .bytes .now) (omega arith))
 
 returns-2 : tie.Need-returns-2

@@ -14,8 +14,8 @@ answer-spec =
     (λ c. search needs)
     (λ c. search needs)
     (λ c κs. let s = c .before .before .before .before in
-    (search needs, L.taken-tells 8 1024 (s .args .c) (sym (c .before .before .enum-told2 .given .1) ∙ s .pre)))
+    L.taken-tells 8 1024 (s .args .c) (sym (c .before .before .enum-told2 .given .1) ∙ s .pre))
     (λ c. let s = c .before .before .before in
     L.end-refused 8 1024 (s .args .c) (L.refused-tells 8 1024 (s .args .c) (sym (c .before .enum-told .given .1) ∙ s .pre)) (c .refuse .ensures) .0)
     (λ c. let s = c .before .before .before .before .before in
-    L.end-answered 8 1024 (s .args .c) (L.taken-tells 8 1024 (s .args .c) (sym (c .before .before .before .enum-told2 .given .1) ∙ s .pre)) (c .read .ensures) .0))
+    L.end-reads 8 1024 (s .args .c) (L.taken-tells 8 1024 (s .args .c) (sym (c .before .before .before .enum-told2 .given .1) ∙ s .pre)) (c .read .ensures)))
