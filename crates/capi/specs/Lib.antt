@@ -1,2 +1,3 @@
 -- What crosses to C.
 pub mod Abi
+pub mod Block

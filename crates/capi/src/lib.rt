@@ -1,6 +1,9 @@
-// The C face: numbers and byte slices in and out, nothing decided here (docs/ABI.md). Here the reader; the writer in `write`.
+// The C face: numbers and byte slices in and out, nothing decided here (docs/ABI.md). Here the readers; the writer in `write`, the collector in `collect`.
+mod collect;
 mod write;
 
+pub use collect::typetext_end;
+pub use collect::typetext_feed;
 use meaning::Kind;
 use meaning::Padding;
 use meaning::Reading;
@@ -76,7 +79,7 @@ fn padding_number(p: Padding) -> u8
     }
 }
 
-fn flag_number(b: bool) -> u8
+pub(crate) fn flag_number(b: bool) -> u8
     ensures { λ r. ⌜ r ≡ flag-number b ⌝ }
 {
     if b { 1 } else { 0 }
@@ -113,7 +116,7 @@ fn record_numbers(v: Record) -> TypetextRecord
     }
 }
 
-fn in_numbers(r: Reading) -> TypetextReading
+pub(crate) fn in_numbers(r: Reading) -> TypetextReading
     ensures { λ n. ⌜ n ≡ in-numbers r ⌝ }
 {
     let v = r.value;

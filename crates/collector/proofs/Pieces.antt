@@ -70,6 +70,15 @@ module _ (size : ℕ) where
   unfolding fed
   fed-laid h p f = rw (laid-in-order h f, held-laid h)
 
+  -- a piece keeps a collector in order
+  pub fed-in-order : (c : Collector) (p : Text) → in-order size c ≡ true → in-order size (fed size c p) ≡ true
+  unfolding fed
+  fed-in-order c p y = rw y (laid-in-order (joined size (held c) p) (fits-joined (held c) p))
+
+  pub fresh-in-order : in-order size (fresh size) ≡ true
+  unfolding fresh
+  fresh-in-order = laid-in-order (holds []) (omega arith)
+
   fed-all : (h : Held) (ps : List Text) → Fits h → foldl (fed size) (laid size h) ps ≡ laid size (foldl (joined size) h ps)
   fed-all h [] f = refl
   fed-all h (p ∷ ps) f = ap (λ (c : Collector). foldl (fed size) c ps) (fed-laid h p f) ∙ fed-all (joined size h p) ps (fits-joined h p)
