@@ -94,7 +94,7 @@ enum typetext_refusal {
     TYPETEXT_NO_TYPE = 3,        /* ordinary reader: Type::parse returns None */
     TYPETEXT_LIST_TOO_LONG = 4,  /* readers: the type has a list of over 8 entries */
     TYPETEXT_NOT_STRICT = 5,     /* strict reader: the text isn't a strict form */
-    TYPETEXT_NOT_NORMAL = 6,     /* writer: the record isn't normal, or has a number that is no record's */
+    TYPETEXT_NOT_NORMAL = 6,     /* writer: the record isn't normal, or has a number that is no record's; collector: not in order */
     TYPETEXT_NO_TEXT = 7,        /* writer: the record has no text */
     TYPETEXT_ROOM_TOO_SHORT = 8  /* writer: the room is shorter than the text */
 };
@@ -158,6 +158,23 @@ typetext_reading typetext_parse_strict(const uint8_t *text, size_t len);
 /* The writer: the record's text at the front of the room, or refusal 6, 7 or 8. The text is a strict form and reads back
  * as this record. No byte 0 follows it, and bytes of the room behind it stay as they were; a refusal changes none. */
 typetext_written typetext_write(const typetext_record *record, uint8_t *room, size_t room_len);
+
+/* A text that comes in pieces. One collector per link: a block of TYPETEXT_COLLECTOR bytes that you lend to each call and
+ * that is yours otherwise. All zeros is a fresh one:
+ *
+ *     uint8_t link[TYPETEXT_COLLECTOR] = {0};
+ *     typetext_feed(link, sizeof link, piece, piece_len);     as often as pieces come, also empty ones
+ *     typetext_reading r = typetext_end(link, sizeof link);   fresh again, also after a refusal
+ */
+#define TYPETEXT_COLLECTOR 1027
+
+/* A piece: 0, or TYPETEXT_NOT_NORMAL (6) for a block of another size or one that no call left so; it is then unaltered.
+ * The block and the piece don't overlap. */
+uint8_t typetext_feed(uint8_t *block, size_t block_len, const uint8_t *piece, size_t len);
+
+/* The end: what typetext_parse answers on all the pieces' bytes together, however they were cut; 1 once they passed the
+ * limit. Then the block is fresh. 6 as above. */
+typetext_reading typetext_end(uint8_t *block, size_t block_len);
 
 #ifdef __cplusplus
 }

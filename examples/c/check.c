@@ -317,6 +317,58 @@ static void longest(void)
     CHECK(memcmp(&r, &back.value, offsetof(typetext_record, attribute) + 1) == 0);
 }
 
+/* The same text, cut at every place: the collector's answer is the reader's, and the block is zeros again. */
+static void pieces(void)
+{
+    static const uint8_t fresh[TYPETEXT_COLLECTOR];
+    const char *t = "tile<4x?xyxf32>";
+    uint8_t link[TYPETEXT_COLLECTOR] = {0};
+    uint8_t block[TYPETEXT_COLLECTOR];
+    uint8_t full[1024];
+    typetext_reading whole = typetext_parse((const uint8_t *)t, strlen(t));
+    typetext_reading r;
+    size_t i;
+    for (i = 0; i <= strlen(t); i++) {
+        CHECK(typetext_feed(link, sizeof link, (const uint8_t *)t, i) == TYPETEXT_ACCEPTED);
+        CHECK(typetext_feed(link, sizeof link, (const uint8_t *)t, 0) == TYPETEXT_ACCEPTED);
+        CHECK(typetext_feed(link, sizeof link, (const uint8_t *)t + i, strlen(t) - i) == TYPETEXT_ACCEPTED);
+        r = typetext_end(link, sizeof link);
+        CHECK(r.refusal == TYPETEXT_ACCEPTED && r.a == 1 && r.a == whole.a);
+        CHECK(memcmp(&r.value, &whole.value, offsetof(typetext_record, attribute) + 1) == 0);
+        CHECK(memcmp(link, fresh, sizeof link) == 0);
+    }
+    memset(full, 200, sizeof full);
+    CHECK(typetext_feed(link, sizeof link, full, sizeof full) == TYPETEXT_ACCEPTED);
+    r = typetext_end(link, sizeof link);
+    CHECK(r.refusal == TYPETEXT_NOT_ASCII && r.place == 0);
+    CHECK(typetext_feed(link, sizeof link, full, sizeof full) == TYPETEXT_ACCEPTED);
+    CHECK(typetext_feed(link, sizeof link, full, 1) == TYPETEXT_ACCEPTED);
+    CHECK(typetext_feed(link, sizeof link, full, 1) == TYPETEXT_ACCEPTED);
+    CHECK(typetext_end(link, sizeof link).refusal == TYPETEXT_TOO_LONG);
+    CHECK(memcmp(link, fresh, sizeof link) == 0);
+    CHECK(typetext_end(link, sizeof link).refusal == TYPETEXT_NO_TYPE);
+    /* blocks that no call left so, and blocks of another size: 6, and unaltered */
+    for (i = 0; i < 4; i++) {
+        memset(link, 0, sizeof link);
+        if (i == 0)
+            link[1026] = 2;
+        else if (i == 1)
+            link[1024] = 4, link[1025] = 1;
+        else if (i == 2)
+            link[7] = 1;
+        else
+            link[1026] = 1, link[1025] = 1;
+        memcpy(block, link, sizeof link);
+        CHECK(typetext_feed(link, sizeof link, full, 3) == TYPETEXT_NOT_NORMAL);
+        CHECK(typetext_end(link, sizeof link).refusal == TYPETEXT_NOT_NORMAL);
+        CHECK(memcmp(link, block, sizeof link) == 0);
+    }
+    memset(link, 0, sizeof link);
+    CHECK(typetext_feed(link, sizeof link - 1, full, 3) == TYPETEXT_NOT_NORMAL);
+    CHECK(typetext_end(link, 0).refusal == TYPETEXT_NOT_NORMAL);
+    CHECK(memcmp(link, fresh, sizeof link) == 0);
+}
+
 int main(void)
 {
     layout();
@@ -335,6 +387,7 @@ int main(void)
     not_normal();
     without_text();
     longest();
+    pieces();
     printf("%d checks held, %d failed\n", held, failed);
     return failed != 0;
 }
