@@ -3,3 +3,4 @@ pub mod Records
 pub mod Back
 pub mod Unique
 pub mod Blocks
+pub mod Fragments
