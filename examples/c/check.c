@@ -320,7 +320,7 @@ static void longest(void)
 /* The same text, cut at every place: the collector's answer is the reader's, and the block is zeros again. */
 static void pieces(void)
 {
-    static const uint8_t fresh[TYPETEXT_COLLECTOR];
+    static const uint8_t fresh[TYPETEXT_COLLECTOR] = {0};
     const char *t = "tile<4x?xyxf32>";
     uint8_t link[TYPETEXT_COLLECTOR] = {0};
     uint8_t block[TYPETEXT_COLLECTOR];
