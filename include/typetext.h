@@ -5,15 +5,16 @@
  * For C99 and C++, on x86-64 with the System V calling convention. Link with libtypetext.a; tools/library makes it and
  * lays this file beside it.
  *
- * Three calls: an ordinary reader, which reads what Type::parse of cutile-ir reads and counts the defaults that it took;
- * a strict reader, which takes no default; and a writer. They keep no pointer, allocate nothing, share nothing between
- * threads, and write nowhere but into their answer and the room that they are lent.
+ * Five calls: an ordinary reader, which reads what Type::parse of cutile-ir reads and counts the defaults that it took;
+ * a strict reader, which takes no default; a writer; and two by which the ordinary reader takes a text in pieces. They
+ * keep no pointer, allocate nothing, share nothing between threads, and write nowhere but into their answer and the room
+ * or block that they are lent.
  *
- * A caller has to vouch for what C can't check and for nothing else: that a text's pointer leads to `len` readable
- * bytes, a record's pointer to one whole typetext_record, a room's pointer to `room_len` writable bytes that are no part
- * of that record. With a length of 0 the pointer isn't followed. What the bytes and numbers are is the library's
- * concern: any text gets an answer, and a record that holds wrong numbers is refused. Answers come back by value, so there
- * is no size of an answer to get wrong.
+ * A caller has to vouch for what C can't check and for nothing else: that the pointer of a text or a piece leads to `len`
+ * readable bytes, a record's pointer to one whole typetext_record, a room's pointer to `room_len` writable bytes that are
+ * no part of that record, a block's to `block_len` writable bytes that are no part of that piece. With a length of 0 the
+ * pointer isn't followed. What the bytes and numbers are is the library's concern: any text gets an answer, and a record
+ * or block that holds wrong numbers is refused. Answers come back by value, so there is no size of an answer to get wrong.
  */
 #ifndef TYPETEXT_H
 #define TYPETEXT_H
@@ -37,6 +38,9 @@ extern "C" {
 
 /* The longest text that the writer makes: a room of so many bytes is enough for every type. */
 #define TYPETEXT_LONGEST_WRITTEN 773
+
+/* The size of a collector, the block in which a text that comes in pieces is joined. */
+#define TYPETEXT_COLLECTOR 1027
 
 /* An entry of `shape` or `strides` that is known only when the kernel runs; written `?`. */
 #define TYPETEXT_DYNAMIC INT64_MIN
@@ -85,8 +89,8 @@ enum typetext_padding {
 };
 
 /* Why a call refuses: the `refusal` of its answer. Each is given exactly when what stands beside it holds and none that
- * comes before it does; the order is 1, 2, 3, 4 for the ordinary reader, 1, 2, 5, 4 for the strict one and 6, 7, 8 for
- * the writer. */
+ * comes before it does; the order is 1, 2, 3, 4 for the ordinary reader, 1, 2, 5, 4 for the strict one, 6, 7, 8 for the
+ * writer and 6, 1, 2, 3, 4 for a collector. */
 enum typetext_refusal {
     TYPETEXT_ACCEPTED = 0,
     TYPETEXT_TOO_LONG = 1,       /* readers: the text has over 1,024 bytes */
@@ -94,7 +98,8 @@ enum typetext_refusal {
     TYPETEXT_NO_TYPE = 3,        /* ordinary reader: Type::parse returns None */
     TYPETEXT_LIST_TOO_LONG = 4,  /* readers: the type has a list of over 8 entries */
     TYPETEXT_NOT_STRICT = 5,     /* strict reader: the text isn't a strict form */
-    TYPETEXT_NOT_NORMAL = 6,     /* writer: the record isn't normal, or has a number that is no record's; collector: not in order */
+    TYPETEXT_NOT_NORMAL = 6,     /* writer: the record isn't normal, or has a number that is no record's */
+    TYPETEXT_NOT_IN_ORDER = 6,   /* collector: the block isn't in order, or has another size */
     TYPETEXT_NO_TEXT = 7,        /* writer: the record has no text */
     TYPETEXT_ROOM_TOO_SHORT = 8  /* writer: the room is shorter than the text */
 };
@@ -159,21 +164,18 @@ typetext_reading typetext_parse_strict(const uint8_t *text, size_t len);
  * as this record. No byte 0 follows it, and bytes of the room behind it stay as they were; a refusal changes none. */
 typetext_written typetext_write(const typetext_record *record, uint8_t *room, size_t room_len);
 
-/* A text that comes in pieces. One collector per link: a block of TYPETEXT_COLLECTOR bytes that you lend to each call and
- * that is yours otherwise. All zeros is a fresh one:
- *
- *     uint8_t link[TYPETEXT_COLLECTOR] = {0};
- *     typetext_feed(link, sizeof link, piece, piece_len);     as often as pieces come, also empty ones
- *     typetext_reading r = typetext_end(link, sizeof link);   fresh again, also after a refusal
- */
-#define TYPETEXT_COLLECTOR 1027
+/* A text in pieces, of any number of bytes each, or none: feed a collector each piece, then end it. A collector is a block
+ * of TYPETEXT_COLLECTOR bytes that you lend, a fresh one all zeros: uint8_t block[TYPETEXT_COLLECTOR] = {0}; and what it
+ * holds is up to these calls. First come 1,024 bytes of room, then the number of bytes so far in two bytes, high byte
+ * first, then the over-full mark: 1 once there were over 1,024 in all, else 0. It is in order if the number is at most
+ * 1,024, the room past the number is zero, and an over-full one has number 0 and only zeros. Any other block, and any of
+ * another size, is refused with 6 and stays as it was. */
 
-/* A piece: 0, or TYPETEXT_NOT_NORMAL (6) for a block of another size or one that no call left so; it is then unaltered.
- * The block and the piece don't overlap. */
+/* A piece: 0, or refusal 6 and no other. */
 uint8_t typetext_feed(uint8_t *block, size_t block_len, const uint8_t *piece, size_t len);
 
-/* The end: what typetext_parse answers on all the pieces' bytes together, however they were cut; 1 once they passed the
- * limit. Then the block is fresh. 6 as above. */
+/* The end: what typetext_parse answers on the joined bytes, wherever they were cut, or refusal 6. After all but 6 the
+ * block is fresh again and takes the next text. */
 typetext_reading typetext_end(uint8_t *block, size_t block_len);
 
 #ifdef __cplusplus

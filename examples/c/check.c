@@ -1,5 +1,5 @@
-/* Holds header and library to docs/ABI.md: layout, every refusal, rooms, wrong numbers. Prints what differs; the last line
- * says how many checks held, and the exit status is 1 if one didn't. */
+/* Holds header and library to docs/ABI.md: layout, every refusal, rooms, wrong numbers, texts in pieces. Prints what
+ * differs; the last line says how many checks held, and the exit status is 1 if one didn't. */
 #include "typetext.h"
 
 #include <stdio.h>
@@ -77,6 +77,7 @@ static void constants(void)
     CHECK(sizeof(size_t) == 8);
     CHECK(TYPETEXT_DYNAMIC < -INT64_MAX);
     CHECK(TYPETEXT_CAPACITY == 8 && TYPETEXT_LONGEST_TEXT == 1024 && TYPETEXT_LONGEST_WRITTEN == 773);
+    CHECK(TYPETEXT_COLLECTOR == 1027 && TYPETEXT_NOT_IN_ORDER == 6);
 }
 
 static void kinds(void)
@@ -317,56 +318,146 @@ static void longest(void)
     CHECK(memcmp(&r, &back.value, offsetof(typetext_record, attribute) + 1) == 0);
 }
 
-/* The same text, cut at every place: the collector's answer is the reader's, and the block is zeros again. */
+/* The bytes that a call sets: the record's end and the reading's are padding. */
+static int same(const typetext_reading *r, const typetext_reading *s)
+{
+    size_t record = offsetof(typetext_record, attribute) + 1;
+    return memcmp(&r->value, &s->value, record) == 0 && r->place == s->place && r->a == s->a && r->b == s->b &&
+           r->c == s->c && r->d == s->d && r->refusal == s->refusal;
+}
+
+static uint8_t block[TYPETEXT_COLLECTOR + 1]; /* one more byte, which must stay as it is */
+
+static uint8_t feed(const uint8_t *piece, size_t len) { return typetext_feed(block, TYPETEXT_COLLECTOR, piece, len); }
+
+/* The end answers as typetext_parse does on the whole, and leaves a fresh block. */
+static void ended(int line, const uint8_t *text, size_t len)
+{
+    typetext_reading whole = typetext_parse(text, len);
+    typetext_reading end = typetext_end(block, TYPETEXT_COLLECTOR);
+    check_at(line, same(&end, &whole), "the end answers as on the whole text");
+    check_at(line, all_are(block, sizeof block, 0), "the block is fresh after the end");
+}
+
+#define ENDED(text, len) ended(__LINE__, (text), (len))
+
+/* Cut into any three pieces, some of them empty, then byte by byte. */
+static void cut_everywhere(const char *text)
+{
+    size_t len = strlen(text), i, j;
+    for (i = 0; i <= len; i++) {
+        for (j = i; j <= len; j++) {
+            CHECK(feed(bytes(text), i) == 0 && feed(bytes(text) + i, j - i) == 0);
+            CHECK(feed(bytes(text) + j, len - j) == 0);
+            ENDED(bytes(text), len);
+        }
+    }
+    for (i = 0; i < len; i++)
+        CHECK(feed(bytes(text) + i, 1) == 0 && feed(NULL, 0) == 0 && block[1024] == 0 && block[1025] == i + 1);
+    CHECK(memcmp(block, text, len) == 0 && block[1026] == 0);
+    ENDED(bytes(text), len);
+}
+
 static void pieces(void)
 {
-    static const uint8_t fresh[TYPETEXT_COLLECTOR] = {0};
-    const char *t = "tile<4x?xyxf32>";
-    uint8_t link[TYPETEXT_COLLECTOR] = {0};
-    uint8_t block[TYPETEXT_COLLECTOR];
-    uint8_t full[1024];
-    typetext_reading whole = typetext_parse((const uint8_t *)t, strlen(t));
-    typetext_reading r;
+    ENDED(NULL, 0);
+    cut_everywhere("");
+    cut_everywhere("f32");
+    cut_everywhere(" tile<04x?xbf16> ");
+    cut_everywhere("tile<\x80\xff>");
+    cut_everywhere("f31");
+    cut_everywhere("tile<1x1x1x1x1x1x1x1x1xf32>");
+    cut_everywhere("ptr<f32, #cuda_tile.ptr_attr<none>>");
+    cut_everywhere("gather_scatter_view<tile=(q), tensor_view<4xf32>, sparse_dim=one>");
+}
+
+/* Up to 1,024 bytes and past them; past them the rest of the block is zero. */
+static void pieces_of_length(void)
+{
+    static uint8_t text[2 * TYPETEXT_LONGEST_TEXT];
     size_t i;
-    for (i = 0; i <= strlen(t); i++) {
-        CHECK(typetext_feed(link, sizeof link, (const uint8_t *)t, i) == TYPETEXT_ACCEPTED);
-        CHECK(typetext_feed(link, sizeof link, (const uint8_t *)t, 0) == TYPETEXT_ACCEPTED);
-        CHECK(typetext_feed(link, sizeof link, (const uint8_t *)t + i, strlen(t) - i) == TYPETEXT_ACCEPTED);
-        r = typetext_end(link, sizeof link);
-        CHECK(r.refusal == TYPETEXT_ACCEPTED && r.a == 1 && r.a == whole.a);
-        CHECK(memcmp(&r.value, &whole.value, offsetof(typetext_record, attribute) + 1) == 0);
-        CHECK(memcmp(link, fresh, sizeof link) == 0);
+    memset(text, ' ', sizeof text);
+    memcpy(text + 1021, "f32", 3);
+    for (i = 0; i <= 1024; i += 64) {
+        CHECK(feed(text, i) == 0 && feed(text + i, 1024 - i) == 0);
+        CHECK(memcmp(block, text, 1024) == 0 && block[1024] == 4 && block[1025] == 0 && block[1026] == 0);
+        ENDED(text, 1024);
+        CHECK(feed(text, i) == 0 && feed(text + i, 1025 - i) == 0);
+        CHECK(all_are(block, 1026, 0) && block[1026] == 1);
+        CHECK(feed(text, 3) == 0 && feed(NULL, 0) == 0 && feed(text, sizeof text) == 0);
+        CHECK(all_are(block, 1026, 0) && block[1026] == 1);
+        ENDED(text, 1025);
     }
-    memset(full, 200, sizeof full);
-    CHECK(typetext_feed(link, sizeof link, full, sizeof full) == TYPETEXT_ACCEPTED);
-    r = typetext_end(link, sizeof link);
-    CHECK(r.refusal == TYPETEXT_NOT_ASCII && r.place == 0);
-    CHECK(typetext_feed(link, sizeof link, full, sizeof full) == TYPETEXT_ACCEPTED);
-    CHECK(typetext_feed(link, sizeof link, full, 1) == TYPETEXT_ACCEPTED);
-    CHECK(typetext_feed(link, sizeof link, full, 1) == TYPETEXT_ACCEPTED);
-    CHECK(typetext_end(link, sizeof link).refusal == TYPETEXT_TOO_LONG);
-    CHECK(memcmp(link, fresh, sizeof link) == 0);
-    CHECK(typetext_end(link, sizeof link).refusal == TYPETEXT_NO_TYPE);
-    /* blocks that no call left so, and blocks of another size: 6, and unaltered */
-    for (i = 0; i < 4; i++) {
-        memset(link, 0, sizeof link);
-        if (i == 0)
-            link[1026] = 2;
-        else if (i == 1)
-            link[1024] = 4, link[1025] = 1;
-        else if (i == 2)
-            link[7] = 1;
-        else
-            link[1026] = 1, link[1025] = 1;
-        memcpy(block, link, sizeof link);
-        CHECK(typetext_feed(link, sizeof link, full, 3) == TYPETEXT_NOT_NORMAL);
-        CHECK(typetext_end(link, sizeof link).refusal == TYPETEXT_NOT_NORMAL);
-        CHECK(memcmp(link, block, sizeof link) == 0);
+    text[5] = 0x80; /* refusal 2 up to 1,024 bytes, 1 past them */
+    CHECK(feed(text, 1024) == 0);
+    ENDED(text, 1024);
+    CHECK(feed(text, 1024) == 0 && feed(text, 1) == 0);
+    REFUSED(typetext_end(block, TYPETEXT_COLLECTOR), TYPETEXT_TOO_LONG, 0);
+    CHECK(all_are(block, sizeof block, 0));
+}
+
+/* A block that is refused, by a piece and by the end, stays as it was. */
+static void not_in_order(int line, size_t len)
+{
+    uint8_t before[sizeof block];
+    typetext_reading r;
+    memcpy(before, block, sizeof block);
+    check_at(line, typetext_feed(block, len, bytes("f32"), 3) == TYPETEXT_NOT_IN_ORDER, "a piece's refusal");
+    check_at(line, typetext_feed(block, len, NULL, 0) == TYPETEXT_NOT_IN_ORDER, "an empty piece's refusal");
+    r = typetext_end(block, len);
+    refused(line, r, TYPETEXT_NOT_IN_ORDER, 0);
+    check_at(line, memcmp(before, block, sizeof block) == 0, "a refused block stays as it was");
+    memset(block, 0, sizeof block);
+}
+
+/* A block with these number and mark and one byte of its room set, which is refused; a byte of 0 sets none. */
+static void wrong(int line, int high, int low, int mark, size_t place, int byte)
+{
+    block[1024] = (uint8_t)high;
+    block[1025] = (uint8_t)low;
+    block[1026] = (uint8_t)mark;
+    block[place] = (uint8_t)byte;
+    not_in_order(line, TYPETEXT_COLLECTOR);
+}
+
+#define WRONG(high, low, mark, place, byte) wrong(__LINE__, (high), (low), (mark), (place), (byte))
+
+static void wrong_blocks(void)
+{
+    WRONG(0, 0, 0, 0, 'f'); /* a byte past the number */
+    WRONG(0, 3, 0, 3, 1);
+    WRONG(0, 3, 0, 1023, 255);
+    WRONG(3, 255, 0, 1023, 1);
+    WRONG(4, 1, 0, 0, 0); /* a number over 1,024 */
+    WRONG(255, 255, 0, 0, 0);
+    WRONG(0, 0, 2, 0, 0); /* no mark */
+    WRONG(0, 0, 255, 0, 0);
+    WRONG(0, 1, 1, 0, 0); /* over-full, with a number or a byte */
+    WRONG(4, 0, 1, 0, 0);
+    WRONG(0, 0, 1, 0, 'f');
+    WRONG(0, 0, 1, 1023, 1);
+}
+
+static void blocks_of_another_size(void)
+{
+    static const size_t sizes[] = {0, 1, 1024, TYPETEXT_COLLECTOR - 1, TYPETEXT_COLLECTOR + 1};
+    int i;
+    for (i = 0; i < 5; i++) {
+        not_in_order(__LINE__, sizes[i]);
+        CHECK(feed(bytes("f32"), 3) == 0);
+        not_in_order(__LINE__, sizes[i]);
     }
-    memset(link, 0, sizeof link);
-    CHECK(typetext_feed(link, sizeof link - 1, full, 3) == TYPETEXT_NOT_NORMAL);
-    CHECK(typetext_end(link, 0).refusal == TYPETEXT_NOT_NORMAL);
-    CHECK(memcmp(link, fresh, sizeof link) == 0);
+    CHECK(typetext_feed(NULL, 0, NULL, 0) == TYPETEXT_NOT_IN_ORDER);
+    REFUSED(typetext_end(NULL, 0), TYPETEXT_NOT_IN_ORDER, 0);
+}
+
+/* In order, though no feeding but one of 1,024 zeros makes it so. */
+static void a_block_of_zeros(void)
+{
+    block[1024] = 4;
+    CHECK(feed(NULL, 0) == 0 && block[1024] == 4 && block[1025] == 0 && block[1026] == 0);
+    REFUSED(typetext_end(block, TYPETEXT_COLLECTOR), TYPETEXT_NO_TYPE, 0);
+    CHECK(all_are(block, sizeof block, 0));
 }
 
 int main(void)
@@ -388,6 +479,10 @@ int main(void)
     without_text();
     longest();
     pieces();
+    pieces_of_length();
+    wrong_blocks();
+    blocks_of_another_size();
+    a_block_of_zeros();
     printf("%d checks held, %d failed\n", held, failed);
     return failed != 0;
 }

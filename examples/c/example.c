@@ -1,4 +1,4 @@
-/* Reads the type text of a table of track histories, first loosely, then strictly, and writes it. */
+/* Reads the type text of a table of track histories, loosely, strictly and in pieces, and writes it. */
 #include "typetext.h"
 
 #include <stdio.h>
@@ -31,15 +31,35 @@ static void show(const typetext_record *type)
         printf("  sparse dimension: %ld\n", (long)type->sparse);
 }
 
+static void show_reading(const char *how, const typetext_reading *r)
+{
+    printf("%s: refusal %d\n", how, r->refusal);
+    if (r->refusal != TYPETEXT_ACCEPTED)
+        return;
+    show(&r->value);
+    printf("  defaults taken: a %zu, b %zu, c %zu, d %zu\n", r->a, r->b, r->c, r->d);
+}
+
 /* Any text is read as far as can be; the counts say what was made up. */
 static void read_loosely(const char *text)
 {
     typetext_reading r = typetext_parse(bytes(text), strlen(text));
-    printf("loosely: refusal %d\n", r.refusal);
-    if (r.refusal != TYPETEXT_ACCEPTED)
-        return;
-    show(&r.value);
-    printf("  defaults taken: a %zu, b %zu, c %zu, d %zu\n", r.a, r.b, r.c, r.d);
+    show_reading("loosely", &r);
+}
+
+/* As a link delivers it, here at most 20 bytes at a time; the answer is that of the whole text. */
+static void read_in_pieces(const char *text, uint8_t *block)
+{
+    size_t len = strlen(text), at, n;
+    typetext_reading r;
+    for (at = 0; at < len; at += n) {
+        n = len - at < 20 ? len - at : 20;
+        printf("  %.*s\n", (int)n, text + at);
+        if (typetext_feed(block, TYPETEXT_COLLECTOR, bytes(text) + at, n) != TYPETEXT_ACCEPTED)
+            return;
+    }
+    r = typetext_end(block, TYPETEXT_COLLECTOR);
+    show_reading("in pieces", &r);
 }
 
 static void read_strictly_and_write(const char *text)
@@ -58,11 +78,16 @@ static void read_strictly_and_write(const char *text)
 
 int main(void)
 {
+    static uint8_t block[TYPETEXT_COLLECTOR]; /* all zeros: a fresh collector, and fresh again after each text */
     printf("%s\n", LOOSE);
     read_loosely(LOOSE);
     read_strictly_and_write(LOOSE);
     printf("\n%s\n", STRICT);
     read_loosely(STRICT);
     read_strictly_and_write(STRICT);
+    printf("\n");
+    read_in_pieces(LOOSE, block);
+    printf("\n");
+    read_in_pieces(STRICT, block);
     return 0;
 }
