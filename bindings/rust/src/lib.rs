@@ -34,6 +34,8 @@
 //! # Ok::<(), typetext::Error>(())
 //! ```
 //!
+//! [`Collector`] reads so too, a text that comes in pieces.
+//!
 //! A type can also be built, and then always has a text:
 //!
 //! ```
@@ -52,12 +54,14 @@
 #![deny(missing_docs)]
 
 mod build;
+mod collector;
 mod error;
 mod names;
 mod raw;
 mod text;
 mod types;
 
+pub use collector::Collector;
 pub use error::Error;
 pub use names::{Kind, Padding, Scalar};
 pub use raw::CAPACITY;

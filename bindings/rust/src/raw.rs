@@ -6,6 +6,9 @@ compile_error!("the library is there for x86-64 and, to measure with, for 64-bit
 /// The most entries of a list.
 pub const CAPACITY: usize = 8;
 
+/// The bytes of a collector's block.
+pub const COLLECTOR: usize = 1027;
+
 #[repr(C)]
 #[derive(Clone, Copy, Default, PartialEq, Eq, Hash)]
 pub struct Record {
@@ -50,9 +53,10 @@ const _: () = assert!(size_of::<Written>() == 16 && align_of::<Written>() == 8);
 
 extern "C" {
     fn typetext_write(record: *const Record, room: *mut u8, room_len: usize) -> Written;
+    fn typetext_feed(block: *mut u8, block_len: usize, piece: *const u8, len: usize) -> u8;
 }
 
-pub use reader::{parse, parse_strict};
+pub use reader::{end, parse, parse_strict};
 
 /// A reading comes back by value, as C says.
 #[cfg(target_arch = "x86_64")]
@@ -62,6 +66,7 @@ mod reader {
     extern "C" {
         fn typetext_parse(text: *const u8, len: usize) -> Reading;
         fn typetext_parse_strict(text: *const u8, len: usize) -> Reading;
+        fn typetext_end(block: *mut u8, block_len: usize) -> Reading;
     }
 
     pub fn parse(text: &[u8]) -> Reading {
@@ -72,6 +77,11 @@ mod reader {
     pub fn parse_strict(text: &[u8]) -> Reading {
         // SAFETY: as above.
         unsafe { typetext_parse_strict(text.as_ptr(), text.len()) }
+    }
+
+    pub fn end(block: &mut [u8]) -> Reading {
+        // SAFETY: pointer and length are of one slice, which is lent to be altered.
+        unsafe { typetext_end(block.as_mut_ptr(), block.len()) }
     }
 }
 
@@ -87,6 +97,7 @@ mod reader {
     extern "C" {
         fn typetext_parse(answer: *mut Reading, text: *const u8, len: usize);
         fn typetext_parse_strict(answer: *mut Reading, text: *const u8, len: usize);
+        fn typetext_end(answer: *mut Reading, block: *mut u8, block_len: usize);
     }
 
     fn answer(call: Call, text: &[u8]) -> Reading {
@@ -105,11 +116,25 @@ mod reader {
     pub fn parse_strict(text: &[u8]) -> Reading {
         answer(typetext_parse_strict, text)
     }
+
+    pub fn end(block: &mut [u8]) -> Reading {
+        let mut answer = MaybeUninit::uninit();
+        // SAFETY: pointer and length are of one slice, lent to be altered; the call sets every field of its answer.
+        unsafe {
+            typetext_end(answer.as_mut_ptr(), block.as_mut_ptr(), block.len());
+            answer.assume_init()
+        }
+    }
 }
 
 pub fn write(record: &Record, room: &mut [u8]) -> Written {
     // SAFETY: the record is whole, pointer and length are of one slice, and a `&mut` overlaps nothing.
     unsafe { typetext_write(record, room.as_mut_ptr(), room.len()) }
+}
+
+pub fn feed(block: &mut [u8], piece: &[u8]) -> u8 {
+    // SAFETY: pointers and lengths are of two slices, and a `&mut` overlaps nothing.
+    unsafe { typetext_feed(block.as_mut_ptr(), block.len(), piece.as_ptr(), piece.len()) }
 }
 
 #[cfg(test)]
@@ -168,5 +193,59 @@ mod tests {
         for record in wrong {
             assert_eq!(write(&record, &mut [0; 773]).refusal, 6);
         }
+    }
+
+    /// Refusal 6 of a collector, which no caller of this crate can meet; a refused block is as it was.
+    #[test]
+    fn a_wrong_block() {
+        let with = |bytes: &[(usize, u8)]| {
+            let mut block = [0; COLLECTOR];
+            for (place, byte) in bytes {
+                block[*place] = *byte;
+            }
+            block
+        };
+        let wrong = [
+            with(&[(0, 1)]),
+            with(&[(1025, 3), (3, 1)]),
+            with(&[(1024, 4), (1025, 1)]),
+            with(&[(1026, 2)]),
+            with(&[(1026, 1), (1025, 1)]),
+            with(&[(1026, 1), (1023, 1)]),
+        ];
+        for before in wrong {
+            let mut block = before;
+            assert_eq!(feed(&mut block, b"f32"), 6);
+            let reading = end(&mut block);
+            assert_eq!((reading.refusal, reading.place), (6, 0));
+            assert_eq!(block, before);
+        }
+        for len in [0, 1024, 1026, 1028] {
+            let mut block = [0; 1028];
+            assert_eq!(feed(&mut block[..len], b"f32"), 6);
+            assert_eq!(end(&mut block[..len]).refusal, 6);
+            assert_eq!(block, [0; 1028]);
+        }
+    }
+
+    #[test]
+    fn a_block_byte_by_byte() {
+        let mut block = [0; COLLECTOR];
+        assert_eq!(feed(&mut block, b"f32"), 0);
+        assert_eq!(
+            (&block[..4], &block[1024..]),
+            (&b"f32\0"[..], &[0, 3, 0][..])
+        );
+        assert_eq!(feed(&mut block, &[b' '; 1021]), 0);
+        assert_eq!(block[1024..], [4, 0, 0]);
+        assert_eq!(feed(&mut block, b""), 0);
+        assert_eq!(block[1024..], [4, 0, 0]);
+        assert_eq!(feed(&mut block, b" "), 0);
+        assert_eq!(
+            (block[..1024] == [0; 1024], &block[1024..]),
+            (true, &[0, 0, 1][..])
+        );
+        assert_eq!(end(&mut block).refusal, 1);
+        assert_eq!(block, [0; COLLECTOR]);
     }
 }

@@ -39,6 +39,12 @@ impl Defaults {
     }
 }
 
+/// What an ordinary reading says.
+pub(crate) fn ordinary(reading: &Reading) -> Result<(Type, Defaults), Error> {
+    Error::check(reading)?;
+    Ok((Type(reading.value), Defaults::of(reading)))
+}
+
 impl Type {
     /// Reads what cutile-ir's `Type::parse` reads, and counts the defaults taken; refusals 1 to 4.
     ///
@@ -49,9 +55,7 @@ impl Type {
     /// # Ok::<(), typetext::Error>(())
     /// ```
     pub fn parse_ordinary(text: impl AsRef<[u8]>) -> Result<(Type, Defaults), Error> {
-        let reading = raw::parse(text.as_ref());
-        Error::check(&reading)?;
-        Ok((Type(reading.value), Defaults::of(&reading)))
+        ordinary(&raw::parse(text.as_ref()))
     }
 
     /// Reads a strict form, in which no byte is without meaning and no default is taken; refusals 1, 2, 5 and 4. An
