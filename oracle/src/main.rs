@@ -6,12 +6,14 @@ mod answer;
 mod bytecode;
 mod clauses;
 mod compare;
+mod cuts;
 mod damage;
 mod dice;
 mod escape;
 mod exhaust;
 mod flat;
 mod forms;
+mod fragments;
 mod generate;
 #[cfg(has_source)]
 mod ir;
@@ -45,8 +47,8 @@ use std::path::{Path, PathBuf};
 use std::process::ExitCode;
 
 const HELP: &str = "\
-oracle: the original Type::parse, run beside a plain second reading of the same texts; our readers
-and our writer beside plain ones
+oracle: the original Type::parse, run beside a plain second reading of the same texts; our readers,
+our writer and our collector beside plain ones
 
   oracle answer [--plain|--original]   answers for the texts of standard input, one per line
                                        (escapes \\\\ and \\xHH); by default both are read, and a
@@ -59,6 +61,9 @@ and our writer beside plain ones
                                        text beside the ordinary readings
   oracle round COUNT [SEED]            our writer beside a plain one on COUNT records in rooms of
                                        several sizes; what is written is read back by every reader
+  oracle fragments COUNT [SEED]        our collector on COUNT runs of texts in pieces, and on blocks
+                                       that are not in order, beside a plain one; each end beside
+                                       our reader and both readings on the joined bytes
   oracle list [DIR]                    writes the fixed list anew: DIR/list1.txt, DIR/list2.txt, ...
   oracle check-list [DIR]              checks every row of the list, and that it would be written so
   oracle table DIR                     writes DIR/Part1.antt, DIR/Part2.antt, ...
@@ -67,8 +72,8 @@ and our writer beside plain ones
 
 The list's DIR is crates/replay/data unless named. `--original`, `agree` and `list` need the
 original source, found at build time: CUTILE_IR_SRC names the folder that holds src/ir/types.rs.
-The other commands also hold it beside the plain reading where it is there. `compare`, `strict`
-and `round` need our library: TYPETEXT_LIB names the folder that holds libcapi.a.
+The other commands also hold it beside the plain reading where it is there. `compare`, `strict`,
+`round` and `fragments` need our library: TYPETEXT_LIB names the folder that holds libcapi.a.
 Exit: 0 all is well, 1 something differs or can't be done, 2 the command isn't understood.
 ";
 
@@ -126,6 +131,8 @@ fn run(words: &[&str], out: &mut dyn Write) -> Result<(), Failure> {
         ["strict", count, seed] => strict(out, count, seed)?,
         ["round", count] => round(out, count, "1")?,
         ["round", count, seed] => round(out, count, seed)?,
+        ["fragments", count] => fragments(out, count, "1")?,
+        ["fragments", count, seed] => fragments(out, count, seed)?,
         ["list"] => list(out, &list_path())?,
         ["list", folder] => list(out, Path::new(folder))?,
         ["check-list"] => check_list(out, &list_path())?,
@@ -175,6 +182,12 @@ fn round(out: &mut dyn Write, count: &str, seed: &str) -> Result<(), Failure> {
     let (count, seed) = (number(count)?, number(seed)?);
     ours::needed()?;
     Ok(round::run(out, count, seed)?)
+}
+
+fn fragments(out: &mut dyn Write, count: &str, seed: &str) -> Result<(), Failure> {
+    let (count, seed) = (number(count)?, number(seed)?);
+    ours::needed()?;
+    Ok(fragments::run(out, count, seed)?)
 }
 
 /// The n-th part of the list, from 1.

@@ -1,4 +1,4 @@
-//! Our readers and our writer, over the C face of the static library (docs/ABI.md).
+//! Our readers, our writer and our collector, over the C face of the static library (docs/ABI.md).
 
 use crate::answer::Answer;
 use crate::flat::Flat;
@@ -35,8 +35,20 @@ pub fn write(_: &Flat, _buffer: &mut [u8], _start: usize, _room: usize) -> Optio
     None
 }
 
+/// A piece for the collector in this block: 0 or 6. None where the library is absent.
+#[cfg(not(has_library))]
+pub fn feed(_block: &mut [u8], _piece: &[u8]) -> Option<u8> {
+    None
+}
+
+/// The end of the text in this block, as `read` gives an answer.
+#[cfg(not(has_library))]
+pub fn end(_block: &mut [u8]) -> Option<Result<Answer, String>> {
+    None
+}
+
 #[cfg(has_library)]
-pub use with_library::{read, read_strict};
+pub use with_library::{end, feed, read, read_strict};
 #[cfg(has_library)]
 pub use writer::write;
 
@@ -63,6 +75,8 @@ pub mod with_library {
     extern "C" {
         fn typetext_parse(out: *mut Reading, text: *const u8, len: usize);
         fn typetext_parse_strict(out: *mut Reading, text: *const u8, len: usize);
+        fn typetext_end(out: *mut Reading, block: *mut u8, block_len: usize);
+        fn typetext_feed(block: *mut u8, block_len: usize, piece: *const u8, len: usize) -> u8;
     }
 
     #[inline]
@@ -91,6 +105,20 @@ pub mod with_library {
 
     pub fn read_strict(text: &[u8]) -> Option<Result<Answer, String>> {
         Some(answered(&parse_strict(text)))
+    }
+
+    pub fn feed(block: &mut [u8], piece: &[u8]) -> Option<u8> {
+        let (start, size) = (block.as_mut_ptr(), block.len());
+        Some(unsafe { typetext_feed(start, size, piece.as_ptr(), piece.len()) })
+    }
+
+    pub fn end(block: &mut [u8]) -> Option<Result<Answer, String>> {
+        let mut out = MaybeUninit::uninit();
+        let reading = unsafe {
+            typetext_end(out.as_mut_ptr(), block.as_mut_ptr(), block.len());
+            out.assume_init()
+        };
+        Some(answered(&reading))
     }
 
     fn answered(reading: &Reading) -> Result<Answer, String> {
