@@ -169,7 +169,7 @@ typetext_written typetext_write(const typetext_record *record, uint8_t *room, si
  * holds is up to these calls. First come 1,024 bytes of room, then the number of bytes so far in two bytes, high byte
  * first, then the over-full mark: 1 once there were over 1,024 in all, else 0. It is in order if the number is at most
  * 1,024, the room past the number is zero, and an over-full one has number 0 and only zeros. Any other block, and any of
- * another size, is refused with 6 and stays as it was. */
+ * another size, is refused with 6 and stays as it was. The block and the piece don't overlap. */
 
 /* A piece: 0, or refusal 6 and no other. */
 uint8_t typetext_feed(uint8_t *block, size_t block_len, const uint8_t *piece, size_t len);
