@@ -1,5 +1,5 @@
-//! Random runs of a collector from a seed: texts cut into pieces, texts that are too long, and blocks that are not in
-//! order.
+//! Random runs of a collector from a seed: texts cut into pieces, texts that are too long, and
+//! blocks that are not in order.
 
 use crate::answer::LONGEST_TEXT;
 use crate::dice::Dice;
@@ -77,7 +77,8 @@ fn with_empty(dice: &mut Dice) -> Run {
     fresh(pieces)
 }
 
-/// A text with so many bytes more than a collector takes; in one of three a byte of 128 or more stands in it.
+/// A text with so many bytes more than a collector takes; in one of three a byte of 128 or more
+/// stands in it.
 fn too_long(dice: &mut Dice, more: usize) -> Vec<u8> {
     let mut long = text(dice);
     let filling = dice.byte(b" \x0b0x,<");
@@ -97,8 +98,8 @@ fn over(dice: &mut Dice, more: usize) -> Run {
     let long = too_long(dice, more);
     fresh(match dice.below(16) {
         0 => single(&long),
-        1..5 => vec![long],
-        5..11 => cut(dice, &long),
+        1..=4 => vec![long],
+        5..=10 => cut(dice, &long),
         _ => {
             let (within, past) = long.split_at(LONGEST_TEXT);
             [cut(dice, within), cut(dice, past)].concat()
@@ -120,7 +121,8 @@ fn several(dice: &mut Dice) -> Run {
     run
 }
 
-/// A block that holds a part of a text already, or is full or over-full, and is fed the rest or one piece more.
+/// A block that holds a part of a text already, or is full or over-full, and is fed the rest or one
+/// piece more.
 fn given(dice: &mut Dice) -> Run {
     let text = match dice.below(4) {
         0 => too_long(dice, 0),

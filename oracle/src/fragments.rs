@@ -1,12 +1,17 @@
-//! `oracle fragments`: our collector beside a plain one, written from request C-13 and docs/ABI.md alone, on texts in
-//! pieces; and each end beside the readings of the joined text.
+//! `oracle fragments`: our collector beside a plain one, written from request C-13 and docs/ABI.md
+//! alone, on texts in pieces; and each end beside the readings of the joined text.
+
+mod smallest;
+#[cfg(test)]
+mod tests;
 
 use crate::answer::{Answer, LONGEST_TEXT};
-use crate::compare::{settled_by_ours, shrunk};
+use crate::compare::settled_by_ours;
 use crate::cuts::SORTS;
 use crate::dice::Dice;
 use crate::escape::escape;
 use crate::{original, ours, plain};
+use smallest::smallest;
 use std::fmt;
 use std::io::{self, Write};
 
@@ -26,7 +31,8 @@ pub struct Run {
     pub steps: Vec<Step>,
 }
 
-/// The joined text that a block stands for, None if it isn't in order. Of an over-full one only the length is known.
+/// The joined text that a block stands for, None if it isn't in order. Of an over-full one it is
+/// known only that it is too long.
 fn joined(block: &[u8]) -> Option<Vec<u8>> {
     if block.len() != BLOCK {
         return None;
@@ -101,7 +107,8 @@ impl Lent {
     }
 }
 
-/// What differs at this step, if something does. The text is what the plain collector has joined so far.
+/// What differs at this step, if something does. The text is what the plain collector has joined
+/// so far.
 fn step_differs(
     step: &Step,
     text: &Option<Vec<u8>>,
@@ -139,7 +146,7 @@ fn step_done(step: &Step, text: &mut Option<Vec<u8>>) {
     }
 }
 
-/// The first step that differs from the plain collector, in its answer or in the block that it leaves.
+/// The first step that differs from the plain collector, in its answer or in the block it leaves.
 fn difference(run: &Run, calls: Calls) -> Option<String> {
     let mut lent = Lent::new(&run.block);
     let mut text = joined(&run.block);
@@ -157,7 +164,8 @@ fn difference(run: &Run, calls: Calls) -> Option<String> {
     None
 }
 
-/// The answer at each end, once our collector has agreed with the plain one and every reader on the joined text.
+/// The answer at each end, once our collector has agreed with the plain one and every reader on
+/// the joined text.
 fn settled(run: &Run) -> Result<Vec<Answer>, String> {
     let mut answers = Vec::new();
     let mut text = joined(&run.block);
@@ -181,78 +189,6 @@ fn told(run: &Run, calls: Calls) -> String {
     let run = smallest(run, |run| difference(run, calls).is_some());
     let what = difference(&run, calls).unwrap_or_default();
     format!("our collector differs {what}\n{run}")
-}
-
-/// With fewer steps and cuts, plainer pieces and a plainer block, while `bad` stays true.
-fn smallest(run: &Run, bad: impl Fn(&Run) -> bool) -> Run {
-    let mut best = run.clone();
-    loop {
-        let before = best.clone();
-        without_steps(&mut best, &bad);
-        fewer_cuts(&mut best, &bad);
-        plainer_pieces(&mut best, &bad);
-        plainer_block(&mut best, &bad);
-        if best == before {
-            return best;
-        }
-    }
-}
-
-/// Many at once first, as a text can have come byte by byte.
-fn without_steps(best: &mut Run, bad: &impl Fn(&Run) -> bool) {
-    let mut size = best.steps.len();
-    while size > 0 {
-        let mut start = 0;
-        while start + size <= best.steps.len() {
-            let mut fewer = best.clone();
-            fewer.steps.drain(start..start + size);
-            match bad(&fewer) {
-                true => *best = fewer,
-                false => start += size,
-            }
-        }
-        size /= 2;
-    }
-}
-
-fn fewer_cuts(best: &mut Run, bad: &impl Fn(&Run) -> bool) {
-    let mut place = 1;
-    while place < best.steps.len() {
-        let mut whole = best.clone();
-        let two = (&best.steps[place - 1], &best.steps[place]);
-        if let (Step::Feed(front), Step::Feed(back)) = two {
-            let piece = [&front[..], back].concat();
-            whole.steps.splice(place - 1..=place, [Step::Feed(piece)]);
-        }
-        match whole != *best && bad(&whole) {
-            true => *best = whole,
-            false => place += 1,
-        }
-    }
-}
-
-fn plainer_pieces(best: &mut Run, bad: &impl Fn(&Run) -> bool) {
-    for place in 0..best.steps.len() {
-        let with = |piece: &[u8]| {
-            let mut run = best.clone();
-            run.steps[place] = Step::Feed(piece.to_vec());
-            run
-        };
-        if let Step::Feed(piece) = &best.steps[place] {
-            let piece = shrunk(piece, |piece| bad(&with(piece)));
-            *best = with(&piece);
-        }
-    }
-}
-
-fn plainer_block(best: &mut Run, bad: &impl Fn(&Run) -> bool) {
-    for place in 0..best.block.len() {
-        let mut plainer = best.clone();
-        plainer.block[place] = 0;
-        if bad(&plainer) {
-            *best = plainer;
-        }
-    }
 }
 
 /// The block's bytes but for zeros at the end of the room, and each step.
@@ -350,6 +286,3 @@ fn line(out: &mut dyn Write, name: &str, totals: &Totals) -> io::Result<()> {
         "{name:14} {runs:>10} {pieces:>10} {accepted:>10} {one:>9} {two:>9} {three:>10} {four:>9} {six:>9}"
     )
 }
-
-#[cfg(test)]
-mod tests;

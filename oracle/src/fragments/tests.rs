@@ -78,7 +78,8 @@ fn not_in_order() {
     assert_eq!(joined(&[0; BLOCK + 1]), None);
 }
 
-/// "Once the total passes 1,024 it stays over-full, and the end answers 1, also where a byte of 128 came earlier."
+/// "Once the total passes 1,024 it stays over-full, and the end answers 1, also where a byte of 128
+/// came earlier."
 #[test]
 fn over_full() {
     let steps = vec![
@@ -139,7 +140,7 @@ fn found(calls: Calls) -> Run {
     unreachable!()
 }
 
-/// Forgets the empty piece's collector isn't in order.
+/// Takes an empty piece without a look at the block.
 fn careless_feed(block: &mut [u8], piece: &[u8]) -> Option<u8> {
     match piece.is_empty() {
         true => Some(0),
@@ -174,12 +175,18 @@ fn eager_end(block: &mut [u8]) -> Option<Result<Answer, String>> {
 
 #[test]
 fn slips_are_found_and_made_small() {
-    let feed = careless_feed;
-    let run = found(Calls { feed, ..PLAIN });
-    assert_eq!(run.steps, [super::tests::feed(b"")]);
+    let calls = Calls {
+        feed: careless_feed,
+        ..PLAIN
+    };
+    let run = found(calls);
+    assert_eq!(run.steps, [feed(b"")]);
 
-    let feed = dropping_feed;
-    let run = found(Calls { feed, ..PLAIN });
+    let calls = Calls {
+        feed: dropping_feed,
+        ..PLAIN
+    };
+    let run = found(calls);
     assert_eq!(run.steps.len(), 1, "{run}");
 
     let run = found(Calls {
@@ -219,6 +226,10 @@ fn a_run_is_shown_step_by_step() {
         block: block_of(b"tile<"),
         steps: vec![feed(b"\xff"), Step::End],
     };
-    let shown = "  block    of 1027 bytes: tile<, zeros, then [0, 5, 0]\n  step 1   1 bytes: \\xff\n  step 2   the end";
-    assert_eq!(run.to_string(), shown);
+    let shown = [
+        "  block    of 1027 bytes: tile<, zeros, then [0, 5, 0]",
+        "  step 1   1 bytes: \\xff",
+        "  step 2   the end",
+    ];
+    assert_eq!(run.to_string(), shown.join("\n"));
 }
