@@ -55,7 +55,7 @@ fn exhausted(
 
 /// Original and plain reading.
 pub fn agree(out: &mut dyn Write, count: u64, seed: u64) -> Result<(), String> {
-    started(out, count, seed)?;
+    started(out, count, "generated texts", seed)?;
     let mut all = generated(count, seed, settled)?;
     all.push(("exhaustive", exhausted(&FRAMES, LONGEST, settled)?));
     ended(out, &all, "no difference in type, refusal or place")
@@ -66,7 +66,7 @@ const LONGEST_BARE: usize = 6;
 
 /// Original, plain and our own reading, counts included.
 pub fn compare(out: &mut dyn Write, count: u64, seed: u64, quick: bool) -> Result<(), String> {
-    started(out, count, seed)?;
+    started(out, count, "generated texts", seed)?;
     let hold = settled_by_ours;
     let mut all = generated(count, seed, hold)?;
     let (bare, framed) = if quick {
@@ -80,9 +80,10 @@ pub fn compare(out: &mut dyn Write, count: u64, seed: u64, quick: bool) -> Resul
     ended(out, &all, "no difference in type, refusal, place or counts")
 }
 
-fn started(out: &mut dyn Write, count: u64, seed: u64) -> Result<(), String> {
+/// A command's first line, seen before its work begins.
+pub fn started(out: &mut dyn Write, count: u64, what: &str, seed: u64) -> Result<(), String> {
     let told = |error: io::Error| error.to_string();
-    writeln!(out, "seed {seed}, {count} generated texts").map_err(told)?;
+    writeln!(out, "seed {seed}, {count} {what}").map_err(told)?;
     out.flush().map_err(told)
 }
 

@@ -5,6 +5,7 @@ mod smallest;
 #[cfg(test)]
 mod tests;
 
+use crate::agree::started;
 use crate::answer::{Answer, LONGEST_TEXT};
 use crate::compare::settled_by_ours;
 use crate::cuts::SORTS;
@@ -246,9 +247,7 @@ fn generated(count: u64, seed: u64) -> Result<Vec<(&'static str, Totals)>, Strin
 }
 
 pub fn run(out: &mut dyn Write, count: u64, seed: u64) -> Result<(), String> {
-    let started = writeln!(out, "seed {seed}, {count} runs of a collector");
-    let started = started.and_then(|()| out.flush());
-    started.map_err(|error| error.to_string())?;
+    started(out, count, "runs of a collector", seed)?;
     let all = generated(count, seed)?;
     shown(out, &all).map_err(|error| error.to_string())
 }

@@ -1,6 +1,7 @@
 //! `oracle round`: our writer beside the plain one on random records, and what is written read
 //! back by every reader.
 
+use crate::agree::started;
 use crate::answer::{kind_name, Answer, Counts};
 use crate::dice::Dice;
 use crate::escape::escape;
@@ -139,9 +140,7 @@ fn table(count: u64, seed: u64) -> Result<Table, String> {
 }
 
 pub fn run(out: &mut dyn Write, count: u64, seed: u64) -> Result<(), String> {
-    let started = writeln!(out, "seed {seed}, {count} records, four rooms each");
-    let started = started.and_then(|()| out.flush());
-    started.map_err(|error| error.to_string())?;
+    started(out, count, "records, four rooms each", seed)?;
     let table = table(count, seed)?;
     shown(out, &table).map_err(|error| error.to_string())
 }

@@ -1,6 +1,7 @@
 //! `oracle strict`: our strict reader beside the plain recogniser, and each strict text beside
 //! the ordinary readings.
 
+use crate::agree::started;
 use crate::answer::Answer;
 use crate::compare::{settled_by_ours, shrunk};
 use crate::damage::damage;
@@ -116,8 +117,7 @@ fn generated(count: u64, seed: u64) -> Result<Vec<(&'static str, Totals)>, Strin
 const LONGEST: usize = 4;
 
 pub fn run(out: &mut dyn Write, count: u64, seed: u64) -> Result<(), String> {
-    let started = writeln!(out, "seed {seed}, {count} generated texts").and_then(|()| out.flush());
-    started.map_err(|error| error.to_string())?;
+    started(out, count, "generated texts", seed)?;
     let mut all = generated(count, seed)?;
     let listed = Texts::new();
     all.push(("recorded", counted(listed.all().map(|text| settled(text)))?));
