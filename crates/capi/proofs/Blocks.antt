@@ -33,6 +33,10 @@ both : (a b : Bool) → a && b ≡ true → (a ≡ true) × (b ≡ true)
 both true b e = (refl, e)
 both false b e = absurd (false≢true e)
 
+sure : (k : Bool) → (k ≡ false → ⊥) → k ≡ true
+sure true f = refl
+sure false f = absurd (f refl)
+
 module _ (size : ℕ) (b : Text) where
   pub long : formed size b ≡ true → length b ≡ size + 3
   long e = eqb-true (length b) (size + 3) (both (eqb (length b) (size + 3)) (leb (getD b (size + 2) 0) 1) e .0)
@@ -96,11 +100,7 @@ module _ (size : ℕ) (b : Text) where
 
       module _ (h : number v ≡ 6 → ⊥) where
         taken : in-order size c ≡ true
-        taken = by (in-order size c) refl
-          where
-            by : (k : Bool) → in-order size c ≡ k → in-order size c ≡ true
-            by true e = e
-            by false e = absurd (h (ap number (g .0) ∙ S.piece-6 8 size c .1 e))
+        taken = sure (in-order size c) (λ e. h (ap number (g .0) ∙ S.piece-6 8 size c .1 e))
 
         pub fed-order : L.Ordered size (d .bytes) (d .len) (d .over)
         fed-order = L.ordered size (d .bytes) (d .len) (d .over) (ap (in-order size) (g .1) ∙ P.fed-in-order size c p taken)
@@ -118,11 +118,7 @@ module _ (size : ℕ) (b : Text) where
 
       module _ (h : R.number (r .refusal) ≡ 6 → ⊥) where
         read-on : in-order size c ≡ true
-        read-on = by (in-order size c) refl
-          where
-            by : (k : Bool) → in-order size c ≡ k → in-order size c ≡ true
-            by true e = e
-            by false e = absurd (h (ap (λ (x : Reading). R.number (x .refusal)) (g .0) ∙ S.end-6 8 size c .1 e))
+        read-on = sure (in-order size c) (λ e. h (ap (λ (x : Reading). R.number (x .refusal)) (g .0) ∙ S.end-6 8 size c .1 e))
 
         emptied : d ≡ fresh size
         emptied = g .1 ∙ sym (L.end-fresh 8 size c read-on)
