@@ -1,0 +1,109 @@
+-- The default counts of a reading are small: no list of an accepted type has over `cap` entries, and there is one sparse dimension.
+use Prim.Native.Nat.{ℕ, _+_, _*_, _≤_}
+use native.Mathlib.Omega.{arith}
+use mathlib.Core.Bool.{Bool, true, false, _&&_, false≢true}
+use mathlib.Core.Option.{Option, none, some}
+use mathlib.Core.Path.{_≡_, refl}
+use borrow.Author.Tests.{leb-true}
+use lib.Dec.{leb}
+use lib.ListN.{length}
+use Rattle.lexis.specs.Text.{Text, if_then_else_, Cut, nowhere, at}
+use Rattle.meaning.specs.Found.{Clause, values, Found, fits, within, unreadable, counts, made, plain, token, with-attribute}
+use Rattle.meaning.specs.Tile as T
+use Rattle.meaning.specs.Views as W
+use Rattle.meaning.specs.Ordinary.{high-from, parse, refused, accepted, judged, read-ascii, ordinary}
+use Rattle.meaning.specs.declared.Note.{Note}
+use Rattle.meaning.specs.declared.Refusal.{Refusal}
+use Rattle.meaning.specs.declared.Refusal.the-variants.{TooLong, HighByte, NoType, TooMany}
+use Rattle.lists.proofs.Bounds.{fell-within, filled-within}
+use Rattle.sheet.proofs.Everywhere.{Made, All, parse-all}
+
+-- ── one sparse dimension ──
+
+abbrev Thin : Found → Type 0
+Thin t = length (values (t .sparse)) ≤ 1
+
+thin-sparse : (c : Cut) → length (values (W.sparse-by c)) ≤ 1
+thin-sparse nowhere = omega arith
+thin-sparse (at u t) = omega arith
+
+thin : Made Thin
+unfolding token plain made with-attribute T.tile-of T.tensor-found W.view-of W.strided-of
+thin = record {
+  token-is = omega arith;
+  scalar = λ e. omega arith;
+  pointer = λ e. omega arith;
+  tile = λ p c e. omega arith;
+  tensor = λ v. omega arith;
+  partition = λ m v. omega arith;
+  gather = λ c v. thin-sparse c;
+  strided = λ m l v. omega arith;
+  attribute = λ t h. h;
+}
+
+-- ── all four ──
+
+pub record Few (n : ℕ) (k : Note) : Type 0 where
+  pub a : k .a ≤ n
+  pub b : k .b ≤ n
+  pub c : k .c ≤ n
+  pub d : k .d ≤ n
+
+module _ (cap : ℕ) where
+  -- as many as this, of each
+  abbrev pub most : ℕ
+  most = 2 * cap + 4
+
+  first : (d e : Bool) → d && e ≡ true → d ≡ true
+  first true e h = refl
+  first false e h = h
+
+  second : (d e : Bool) → d && e ≡ true → e ≡ true
+  second true e h = h
+  second false e h = absurd (false≢true h)
+
+  -- a clause that fits has no more unreadable entries
+  fell : (c : Clause) → fits cap c ≡ true → unreadable c ≤ cap
+  fell c e = let h = leb-true (length (values c)) cap e in let k = fell-within cap c in omega arith
+
+  counts-few : (t : Found) → Thin t → within cap t ≡ true → Few most (counts t)
+  unfolding within counts
+  counts-few t h e =
+      let f = fits cap in
+      let e₄ = first (f (t .shape) && f (t .strides) && f (t .tile) && f (t .map)) (f (t .traversal)) e in
+      let e₃ = first (f (t .shape) && f (t .strides) && f (t .tile)) (f (t .map)) e₄ in
+      let e₂ = first (f (t .shape) && f (t .strides)) (f (t .tile)) e₃ in
+      let shape = fell (t .shape) (first (f (t .shape)) (f (t .strides)) e₂) in
+      let strides = fell (t .strides) (second (f (t .shape)) (f (t .strides)) e₂) in
+      let tile = fell (t .tile) (second (f (t .shape) && f (t .strides)) (f (t .tile)) e₃) in
+      let map = fell (t .map) (second (f (t .shape) && f (t .strides) && f (t .tile)) (f (t .map)) e₄) in
+      let traversal = fell (t .traversal) (second (f (t .shape) && f (t .strides) && f (t .tile) && f (t .map)) (f (t .traversal)) e) in
+      let sparse = fell-within cap (t .sparse) in
+      record {
+        a = omega arith;
+        b = omega arith;
+        c = omega arith;
+        d = omega (arith, filled-within cap (t .strides), filled-within cap (t .map), filled-within cap (t .traversal), filled-within cap (t .sparse));
+      }
+
+  refused-few : (r : Refusal) (place : ℕ) → Few most (refused cap r place .note)
+  unfolding refused
+  refused-few r place = record { a = omega arith; b = omega arith; c = omega arith; d = omega arith }
+
+  judged-few : (o : Option Found) → All Thin thin o → Few most (judged cap o .note)
+  unfolding accepted
+  judged-few none h = refused-few NoType 0
+  judged-few (some t) h = by (within cap t) (counts-few t h)
+    where
+      by : (d : Bool) → (d ≡ true → Few most (counts t)) → Few most ((if d then accepted cap t else refused cap TooMany 0) .note)
+      by true k = k refl
+      by false k = refused-few TooMany 0
+
+  pub few : (size : ℕ) (s : Text) → Few most (ordinary cap size s .note)
+  unfolding ordinary
+  few size s = by (leb (length s) size) (high-from 0 s)
+    where
+      by : (d : Bool) (o : Option ℕ) → Few most ((if d then read-ascii cap s o else refused cap TooLong 0) .note)
+      by true none = judged-few (parse s) (parse-all Thin thin s)
+      by true (some place) = refused-few HighByte place
+      by false o = refused-few TooLong 0

@@ -1,0 +1,61 @@
+-- What the totals are made of, row by row.
+use Prim.Native.Nat.{ℕ, _+_, _<_, _^_}
+use mathlib.Core.Bool.{Bool, true, false}
+use lib.Dec.{eqb}
+use Rattle.lexis.specs.Text.{if_then_else_}
+use Rattle.meaning.specs.Refusals as R
+use Rattle.meaning.specs.declared.Reading.{Reading}
+use Rattle.sheet.specs.declared.Counted.{Counted}
+use Rattle.sheet.specs.declared.Totals.{Totals}
+use Rattle.sheet.specs.declared.sums.Told.{Told}
+
+abbrev pub told : Reading → Told
+told r = record { number = R.number (r .refusal); note = r .note }
+
+abbrev pub once : ℕ → ℕ → ℕ
+once number n = if eqb number n then 1 else 0
+
+-- no row yet
+abbrev pub none : Counted → Totals
+none answer = record {
+  answer = answer;
+  rows = 0;
+  accepted = 0;
+  «refused_1» = 0;
+  «refused_2» = 0;
+  «refused_3» = 0;
+  «refused_4» = 0;
+  a = 0;
+  b = 0;
+  c = 0;
+  d = 0;
+}
+
+-- one row more
+abbrev pub added : Totals → Told → Totals
+added t r = record {
+  answer = t .answer;
+  rows = t .rows + 1;
+  accepted = t .accepted + once (r .number) 0;
+  «refused_1» = t .«refused_1» + once (r .number) 1;
+  «refused_2» = t .«refused_2» + once (r .number) 2;
+  «refused_3» = t .«refused_3» + once (r .number) 3;
+  «refused_4» = t .«refused_4» + once (r .number) 4;
+  a = t .a + r .note .a;
+  b = t .b + r .note .b;
+  c = t .c + r .note .c;
+  d = t .d + r .note .d;
+}
+
+-- every number is below n
+pub record Below (n : ℕ) (t : Totals) : Type 0 where
+  pub rows : t .rows < n
+  pub accepted : t .accepted < n
+  pub «refused_1» : t .«refused_1» < n
+  pub «refused_2» : t .«refused_2» < n
+  pub «refused_3» : t .«refused_3» < n
+  pub «refused_4» : t .«refused_4» < n
+  pub a : t .a < n
+  pub b : t .b < n
+  pub c : t .c < n
+  pub d : t .d < n
