@@ -3,3 +3,5 @@ pub mod Cutting
 mod Everywhere
 pub mod Bounds
 pub mod Summing
+pub mod Rows
+mod Held

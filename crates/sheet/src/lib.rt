@@ -3,9 +3,10 @@ mod lines;
 mod sums;
 
 pub use lines::cut_at;
+use lines::part;
 pub use sums::total;
 ghost use mathlib.Core.Path.{_≡_};
-ghost use Rattle.sheet.specs.Sheet.{number};
+ghost use Rattle.sheet.specs.Sheet.{number, cut, bytes-of};
 
 // A sheet has at most this many bytes.
 pub const LIMIT: usize = 65536;
@@ -49,4 +50,34 @@ pub struct Totals {
     pub b: usize,
     pub c: usize,
     pub d: usize,
+}
+
+// A walker: the sheet that it stands on, and its place there.
+pub struct Walker<'a> {
+    pub sheet: &'a [u8],
+    pub place: usize,
+}
+
+// A walker at the front of the sheet.
+pub fn walk<'a>(sheet: &'a [u8]) -> Walker<'a>
+    ensures { λ w. ⌜ (w .sheet ≡ sheet .entry) × (w .place ≡ 0) ⌝ }
+{
+    Walker { sheet, place: 0 }
+}
+
+// The next row, behind which the walker then stands.
+pub fn next<'s, 'a>(w: &'s mut Walker<'a>) -> Cut
+    ensures { λ c. ⌜ (c ≡ cut 65536 (now (now (w .entry) .sheet)) (now (w .entry) .place))
+        × ((now (w .exit) .sheet ≡ now (w .entry) .sheet) × (now (w .exit) .place ≡ c .next)) ⌝ }
+{
+    let c = cut_at(w.sheet, w.place);
+    w.place = c.next;
+    c
+}
+
+// The bytes of a row.
+pub fn row<'a>(w: Walker<'a>, c: Cut) -> &'a [u8]
+    ensures { λ r. ⌜ now r ≡ bytes-of c (now (w .entry .sheet)) ⌝ }
+{
+    part(w.sheet, c.first, c.end)
 }
