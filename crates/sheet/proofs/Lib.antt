@@ -5,3 +5,5 @@ pub mod Bounds
 pub mod Summing
 pub mod Rows
 mod Held
+pub mod Unique
+pub mod Calls
