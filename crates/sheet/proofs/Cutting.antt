@@ -116,6 +116,7 @@ module _ (limit : ℕ) (s : Text) where
       where
         part : line ≡ stretch p (p + length line) s
         part = sym (ap (λ (n : ℕ). take n (drop p s)) (add-sub-cancel-left p (length line)) ∙ until-take (eqb 10) (drop p s))
+
         by : (d : Bool) → (d ≡ false → length s ≤ p + length line) → p < (if d then p + length line + 1 else p + length line)
         by true h = omega arith
         by false h = let k′ = h refl in omega arith

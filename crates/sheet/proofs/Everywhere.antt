@@ -30,6 +30,10 @@ pub record Made (P : Found → Type 0) : Type 0 where
   pub strided : (m l : Listed) (v : View) → P (W.strided-of m l v)
   pub attribute : (t : Found) → P t → P (with-attribute t)
 
+infixr 20 _also_
+_also_ : {A B : Type 0} → A → B → A × B
+a also b = (a, b)
+
 module _ (P : Found → Type 0) (m : Made P) where
   abbrev pub All : Option Found → Type 0
   All none = Unit
@@ -84,8 +88,8 @@ module _ (P : Found → Type 0) (m : Made P) where
   forms-all : AllForms O.forms
   unfolding O.forms
   forms-all =
-      (tile-all, (tensor-all, (partition-all, (gather-all, (strided-all, (pointer-all,
-      (tile-all, (tensor-all, (partition-all, (gather-all, (strided-all, (pointer-all, tt))))))))))))
+      tile-all also tensor-all also partition-all also gather-all also strided-all also pointer-all also
+      tile-all also tensor-all also partition-all also gather-all also strided-all also pointer-all also tt
 
   by-forms-all : (fs : List Form) → AllForms fs → (s : Text) → All (O.by-forms fs s)
   by-forms-all [] h s = each-all (plain K.Scalar) (m .scalar) (scalar-name s)

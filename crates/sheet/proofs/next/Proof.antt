@@ -169,6 +169,7 @@ module _ {M : Type 1} (𝓤 : URA M) (H : Heap 𝓤) (A : Atoms 𝓤) (W : Given
         -- a row's machine value
         told : (r : Cut) (u : Val) → Is N.the-row r (u ∷ []) → u ∷ [] ≡ N′.lowered r ∷ []
         told r u is = LL.tells N.the-type N′.the-laws r (u ∷ []) is
+
         typed : (r : Cut) (u : Val) → Is N.the-row r (u ∷ []) → Holds (hasTy N′.mir (N′.lowered r)) × WT (N′.lowered r)
         typed r u is = subst (λ (us : List Val). Holds (hasTy N′.mir (only us)) × WT (only us)) (told r u is) (LL.lawful N.the-type N′.the-laws 𝓤 H A W .typed r _ is .0)
 
