@@ -7,3 +7,4 @@ pub mod Rows
 mod Held
 pub mod Unique
 pub mod Calls
+mod Examples

@@ -18,7 +18,7 @@ use Rattle.sheet.specs.declared.Totals.{Totals}
 use Rattle.sheet.specs.declared.sums.Told.{Told}
 use Rattle.sheet.specs.Sheet.{rows, yielded, cut, bytes-of, answered, sum, counted, summed, totals}
 use Rattle.sheet.specs.Parts.{told, none, added, Below}
-use Rattle.sheet.proofs.Bounds.{Few, few}
+use Rattle.sheet.proofs.Bounds.{most, Few, few}
 use Rattle.sheet.proofs.Cutting.{left, Row, first-is, found, ended}
 
 -- ── totals, and those of more rows ──
@@ -137,8 +137,8 @@ module _ (s : Text) where
   ys = yielded 65536 s
 
   -- at most 20 for each of 65,536 rows
-  below-of : (f : Text → ℕ) → ((r : Text) → f r ≤ 20) → sum f ys < 2 ^ 64
-  below-of f h = let k = sum-few 20 f h ys in let l = few-yielded 65536 s in omega arith
+  below-of : (f : Text → ℕ) → ((r : Text) → f r ≤ most 8) → sum f ys < 2 ^ 64
+  below-of f h = let k = sum-few (most 8) f h ys in let l = few-yielded 65536 s in omega arith
 
   below : Below (2 ^ 64) (totals 65536 8 1024 s)
   unfolding totals
