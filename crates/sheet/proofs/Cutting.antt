@@ -1,5 +1,5 @@
 -- Where rows lie: what the cut at a place says of the rows of the rest of the sheet from there on.
-use Prim.Native.Nat.{ℕ, suc, _+_, _-_, _≤_, _<_}
+use Prim.Native.Nat.{ℕ, _+_, _-_, _≤_, _<_}
 use native.Mathlib.Nat.{add-assoc, sub-eq-zero-of-le, add-sub-cancel-left}
 use native.Mathlib.Numerals.{add-one}
 use native.Mathlib.Omega.{arith}
@@ -9,12 +9,12 @@ use mathlib.Core.Path.{_≡_, refl, sym, ap, _∙_}
 use borrow.Author.Tests.{leb-true, ltb-true, ltb-false, le-leb, lt-ltb, le-ltb}
 use lib.Dec.{eqb, leb, ltb}
 use lib.ListN.{length, take, drop, length-drop, drop-of-length-le}
-use lib.Seq.{take-all, take-nil, drop-nil, drop-drop}
+use lib.Seq.{take-all, take-nil, drop-drop}
 use Rattle.lexis.specs.Text.{Text, if_then_else_, onto-first, until}
 use Rattle.lexis.proofs.Lists.{rest}
 use Rattle.lexis.proofs.Seeking.{until-within, until-take}
 use Rattle.sheet.specs.declared.Cut.{Cut}
-use Rattle.sheet.specs.Sheet.{rows, yielded, behind, row-at, no-row, cut, stretch, bytes-of}
+use Rattle.sheet.specs.Sheet.{rows, behind, row-at, no-row, cut, stretch, bytes-of}
 
 -- ── the pieces of `cut_at` and `part` ──
 

@@ -1,6 +1,6 @@
 -- The definition's rows, and that a walk by cuts yields exactly them, in order, and then ends.
 -- Joined again, the rows are the sheet; and each is accepted or refused with 1, 2, 3 or 4.
-use Prim.Native.Nat.{ℕ, zero, suc, _+_, _-_, _≤_, _<_}
+use Prim.Native.Nat.{ℕ, zero, suc, _+_, _<_}
 use native.Mathlib.Omega.{arith}
 use mathlib.Core.Bool.{Bool, true, false}
 use mathlib.Core.List.{List, [], _∷_, _++_}
@@ -13,12 +13,12 @@ use Rattle.lexis.specs.Text.{Text, if_then_else_, onto-first, until}
 use Rattle.meaning.specs.Found.{Found, within}
 use Rattle.meaning.specs.Ordinary.{parse, high-from, refused, accepted, judged, read-ascii, ordinary}
 use Rattle.meaning.specs.declared.Reading.{Reading}
-use Rattle.meaning.specs.declared.Refusal.the-variants.{TooLong, HighByte, NoType, TooMany}
+use Rattle.meaning.specs.declared.Refusal.the-variants.{TooLong, TooMany}
 use Rattle.sheet.specs.declared.Cut.{Cut}
 use Rattle.sheet.specs.declared.Counted.the-variants.{TooLong as Over}
 use Rattle.sheet.specs.Parts.{none as nothing}
 use Rattle.sheet.specs.Sheet.{rows, yielded, no-row, cut, bytes-of, sum, counted, totals}
-use Rattle.sheet.proofs.Cutting.{left, Row, found, ended, stays}
+use Rattle.sheet.proofs.Cutting.{left, found, ended, stays}
 
 -- ── a walk ──
 
@@ -41,13 +41,9 @@ module _ (limit : ℕ) (s : Text) where
       by true e k = let r = found limit s p e in let o = r .onward in ap (λ (rs : List Text). bytes-of (cut limit s p) s ∷ rs) (k (omega arith)) ∙ sym (r .same)
       by false e k = sym (ended limit s p e)
 
-  -- the whole walk, from the front: exactly the rows, in order, or none of a sheet over the limit
-  pub walks-all : walked (suc (length s)) 0 ≡ yielded limit s
-  walks-all = walks (suc (length s)) 0 (omega arith)
-
-  -- any more cuts find nothing more
-  pub then-ends : (n : ℕ) → length s < n → walked n 0 ≡ yielded limit s
-  then-ends n h = walks n 0 (omega arith)
+  -- the whole walk, from the front: exactly the rows, in order, or none of a sheet over the limit; and more cuts find nothing more
+  pub walks-all : (n : ℕ) → length s < n → walked n 0 ≡ yielded limit s
+  walks-all n h = walks n 0 (omega arith)
 
   -- a walk that has ended stays ended, where it is
   pub stays-ended : (p : ℕ) → cut limit s p .found ≡ false → cut limit s (cut limit s p .next) ≡ no-row p

@@ -17,86 +17,70 @@ use Rattle.sheet.specs.declared.Cut.{Cut}
 use Rattle.sheet.specs.declared.Totals.{Totals}
 use Rattle.sheet.specs.declared.sums.Told.{Told}
 use Rattle.sheet.specs.Sheet.{rows, yielded, cut, bytes-of, answered, sum, counted, summed, totals}
-use Rattle.sheet.specs.Parts.{told, none, added, Below}
-use Rattle.sheet.proofs.Bounds.{most, Few, few}
+use Rattle.sheet.specs.Parts.{told, none, one, _plus_, added, Below}
+use Rattle.sheet.proofs.Bounds.{most, few}
 use Rattle.sheet.proofs.Cutting.{left, Row, first-is, found, ended}
 
 -- ── totals, and those of more rows ──
 
-module _ (read : Text → Reading) where
-  abbrev pub joined : Totals → List Text → Totals
-  joined t rs = record {
-    answer = t .answer;
-    rows = t .rows + sum (λ r. 1) rs;
-    accepted = t .accepted + sum (λ r. counted 0 (read r)) rs;
-    «refused_1» = t .«refused_1» + sum (λ r. counted 1 (read r)) rs;
-    «refused_2» = t .«refused_2» + sum (λ r. counted 2 (read r)) rs;
-    «refused_3» = t .«refused_3» + sum (λ r. counted 3 (read r)) rs;
-    «refused_4» = t .«refused_4» + sum (λ r. counted 4 (read r)) rs;
-    a = t .a + sum (λ r. read r .note .a) rs;
-    b = t .b + sum (λ r. read r .note .b) rs;
-    c = t .c + sum (λ r. read r .note .c) rs;
-    d = t .d + sum (λ r. read r .note .d) rs;
-  }
+plus-assoc : (t u v : Totals) → t plus u plus v ≡ t plus (u plus v)
+plus-assoc t u v = λ i. record {
+  answer = t .answer;
+  rows = add-assoc (t .rows) (u .rows) (v .rows) i;
+  accepted = add-assoc (t .accepted) (u .accepted) (v .accepted) i;
+  «refused_1» = add-assoc (t .«refused_1») (u .«refused_1») (v .«refused_1») i;
+  «refused_2» = add-assoc (t .«refused_2») (u .«refused_2») (v .«refused_2») i;
+  «refused_3» = add-assoc (t .«refused_3») (u .«refused_3») (v .«refused_3») i;
+  «refused_4» = add-assoc (t .«refused_4») (u .«refused_4») (v .«refused_4») i;
+  a = add-assoc (t .a) (u .a) (v .a) i;
+  b = add-assoc (t .b) (u .b) (v .b) i;
+  c = add-assoc (t .c) (u .c) (v .c) i;
+  d = add-assoc (t .d) (u .d) (v .d) i;
+}
 
-  pub start : (answer : Counted) (rs : List Text) → summed answer read rs ≡ joined (none answer) rs
-  start answer rs = λ i. record {
-    answer = answer;
-    rows = sym (zero-add (sum (λ r. 1) rs)) i;
-    accepted = sym (zero-add (sum (λ r. counted 0 (read r)) rs)) i;
-    «refused_1» = sym (zero-add (sum (λ r. counted 1 (read r)) rs)) i;
-    «refused_2» = sym (zero-add (sum (λ r. counted 2 (read r)) rs)) i;
-    «refused_3» = sym (zero-add (sum (λ r. counted 3 (read r)) rs)) i;
-    «refused_4» = sym (zero-add (sum (λ r. counted 4 (read r)) rs)) i;
-    a = sym (zero-add (sum (λ r. read r .note .a) rs)) i;
-    b = sym (zero-add (sum (λ r. read r .note .b) rs)) i;
-    c = sym (zero-add (sum (λ r. read r .note .c) rs)) i;
-    d = sym (zero-add (sum (λ r. read r .note .d) rs)) i;
-  }
+plus-none : (t : Totals) (a : Counted) → t plus none a ≡ t
+plus-none t a = λ i. record {
+  answer = t .answer;
+  rows = add-zero (t .rows) i;
+  accepted = add-zero (t .accepted) i;
+  «refused_1» = add-zero (t .«refused_1») i;
+  «refused_2» = add-zero (t .«refused_2») i;
+  «refused_3» = add-zero (t .«refused_3») i;
+  «refused_4» = add-zero (t .«refused_4») i;
+  a = add-zero (t .a) i;
+  b = add-zero (t .b) i;
+  c = add-zero (t .c) i;
+  d = add-zero (t .d) i;
+}
 
-  pub more : (t : Totals) (r : Text) (rs : List Text) → joined t (r ∷ rs) ≡ joined (added t (told (read r))) rs
-  more t r rs = λ i. record {
-    answer = t .answer;
-    rows = sym (add-assoc (t .rows) 1 (sum (λ r. 1) rs)) i;
-    accepted = sym (add-assoc (t .accepted) (counted 0 (read r)) (sum (λ r. counted 0 (read r)) rs)) i;
-    «refused_1» = sym (add-assoc (t .«refused_1») (counted 1 (read r)) (sum (λ r. counted 1 (read r)) rs)) i;
-    «refused_2» = sym (add-assoc (t .«refused_2») (counted 2 (read r)) (sum (λ r. counted 2 (read r)) rs)) i;
-    «refused_3» = sym (add-assoc (t .«refused_3») (counted 3 (read r)) (sum (λ r. counted 3 (read r)) rs)) i;
-    «refused_4» = sym (add-assoc (t .«refused_4») (counted 4 (read r)) (sum (λ r. counted 4 (read r)) rs)) i;
-    a = sym (add-assoc (t .a) (read r .note .a) (sum (λ r. read r .note .a) rs)) i;
-    b = sym (add-assoc (t .b) (read r .note .b) (sum (λ r. read r .note .b) rs)) i;
-    c = sym (add-assoc (t .c) (read r .note .c) (sum (λ r. read r .note .c) rs)) i;
-    d = sym (add-assoc (t .d) (read r .note .d) (sum (λ r. read r .note .d) rs)) i;
-  }
+none-plus : (t : Totals) → none (t .answer) plus t ≡ t
+none-plus t = λ i. record {
+  answer = t .answer;
+  rows = zero-add (t .rows) i;
+  accepted = zero-add (t .accepted) i;
+  «refused_1» = zero-add (t .«refused_1») i;
+  «refused_2» = zero-add (t .«refused_2») i;
+  «refused_3» = zero-add (t .«refused_3») i;
+  «refused_4» = zero-add (t .«refused_4») i;
+  a = zero-add (t .a) i;
+  b = zero-add (t .b) i;
+  c = zero-add (t .c) i;
+  d = zero-add (t .d) i;
+}
 
-  pub no-more : (t : Totals) → joined t [] ≡ t
-  no-more t = λ i. record {
-    answer = t .answer;
-    rows = add-zero (t .rows) i;
-    accepted = add-zero (t .accepted) i;
-    «refused_1» = add-zero (t .«refused_1») i;
-    «refused_2» = add-zero (t .«refused_2») i;
-    «refused_3» = add-zero (t .«refused_3») i;
-    «refused_4» = add-zero (t .«refused_4») i;
-    a = add-zero (t .a) i;
-    b = add-zero (t .b) i;
-    c = add-zero (t .c) i;
-    d = add-zero (t .d) i;
-  }
-
-  part-below : (n : ℕ) (t : Totals) (rs : List Text) → Below n (joined t rs) → Below n t
-  part-below n t rs b = record {
-    rows = omega (arith, b .rows);
-    accepted = omega (arith, b .accepted);
-    «refused_1» = omega (arith, b .«refused_1»);
-    «refused_2» = omega (arith, b .«refused_2»);
-    «refused_3» = omega (arith, b .«refused_3»);
-    «refused_4» = omega (arith, b .«refused_4»);
-    a = omega (arith, b .a);
-    b = omega (arith, b .b);
-    c = omega (arith, b .c);
-    d = omega (arith, b .d);
-  }
+part-below : (n : ℕ) (t u : Totals) → Below n (t plus u) → Below n t
+part-below n t u b = record {
+  rows = omega (arith, b .rows);
+  accepted = omega (arith, b .accepted);
+  «refused_1» = omega (arith, b .«refused_1»);
+  «refused_2» = omega (arith, b .«refused_2»);
+  «refused_3» = omega (arith, b .«refused_3»);
+  «refused_4» = omega (arith, b .«refused_4»);
+  a = omega (arith, b .a);
+  b = omega (arith, b .b);
+  c = omega (arith, b .c);
+  d = omega (arith, b .d);
+}
 
 -- ── how large ──
 
@@ -157,9 +141,13 @@ module _ (s : Text) where
 
   -- ── what the loop holds ──
 
+  -- the totals of the rows from a place on
+  abbrev pub to-come : ℕ → Totals
+  to-come p = summed (answered 65536 s) read (left 65536 s p)
+
   pub record Counting (t : Totals) (c : Cut) : Type 0 where
     pub at : c ≡ cut 65536 s (c .first)
-    pub same : totals 65536 8 1024 s ≡ joined read t (left 65536 s (c .first))
+    pub same : totals 65536 8 1024 s ≡ t plus to-come (c .first)
 
   pub begins : {t : Totals} {c : Cut} {a : Counted} → a ≡ answered 65536 s → t ≡ none a → c ≡ cut 65536 s 0 → Counting t c
   unfolding totals
@@ -167,7 +155,7 @@ module _ (s : Text) where
       let z : c .first ≡ 0 = ap (λ (d : Cut). d .first) k ∙ first-is 65536 s 0 in
       record {
         at = k ∙ ap (cut 65536 s) (sym z);
-        same = start read (answered 65536 s) ys ∙ (λ i. joined read (sym (n ∙ ap none e) i) (left 65536 s (sym z i)));
+        same = sym (none-plus (to-come 0)) ∙ (λ i. sym (n ∙ ap none e) i plus to-come (sym z i));
       }
 
   module _ {t : Totals} {c : Cut} (g : Counting t c) where
@@ -175,24 +163,24 @@ module _ (s : Text) where
     row e = subst (Row 65536 s (c .first)) (sym (g .at)) (found 65536 s (c .first) (sym (ap (λ (d : Cut). d .found) (g .at)) ∙ e))
 
     module _ {r : Told} (e : c .found ≡ true) (q : r ≡ told (read (bytes-of c s))) where
-      grown : totals 65536 8 1024 s ≡ joined read (added t r) (left 65536 s (c .next))
-      grown = g .same ∙ ap (joined read t) (row e .same) ∙ more read t (bytes-of c s) (left 65536 s (c .next)) ∙ ap (λ (x : Told). joined read (added t x) (left 65536 s (c .next))) (sym q)
+      -- the first row to come is counted
+      grown : totals 65536 8 1024 s ≡ added t r plus to-come (c .next)
+      grown =
+          g .same ∙ ap (λ (rs : List Text). t plus summed (answered 65536 s) read rs) (row e .same)
+          ∙ sym (plus-assoc t (one (told (read (bytes-of c s)))) (to-come (c .next))) ∙ ap (λ (x : Told). added t x plus to-come (c .next)) (sym q)
 
       pub room : Below (2 ^ 64) (added t r)
-      room = part-below read (2 ^ 64) (added t r) (left 65536 s (c .next)) (subst (Below (2 ^ 64)) grown below)
+      room = part-below (2 ^ 64) (added t r) (to-come (c .next)) (subst (Below (2 ^ 64)) grown below)
 
       module _ {u : Totals} {d : Cut} (p : u ≡ added t r) (k : d ≡ cut 65536 s (c .next)) where
         starts : d .first ≡ c .next
         starts = ap (λ (x : Cut). x .first) k ∙ first-is 65536 s (c .next)
 
         pub again : Counting u d
-        again = record {
-          at = k ∙ ap (cut 65536 s) (sym starts);
-          same = grown ∙ (λ i. joined read (sym p i) (left 65536 s (sym starts i)));
-        }
+        again = record { at = k ∙ ap (cut 65536 s) (sym starts); same = grown ∙ (λ i. sym p i plus to-come (sym starts i)) }
 
         pub less : length s - d .first < length s - c .first
         less = let a = row e .inside in let b = row e .onward in let f = starts in omega arith
 
     pub done : c .found ≡ false → t ≡ totals 65536 8 1024 s
-    done e = sym (g .same ∙ ap (joined read t) (ended 65536 s (c .first) (sym (ap (λ (d : Cut). d .found) (g .at)) ∙ e)) ∙ no-more read t)
+    done e = sym (g .same ∙ ap (λ (rs : List Text). t plus summed (answered 65536 s) read rs) (ended 65536 s (c .first) (sym (ap (λ (d : Cut). d .found) (g .at)) ∙ e)) ∙ plus-none t (answered 65536 s))

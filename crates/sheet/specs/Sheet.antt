@@ -1,7 +1,7 @@
 -- A sheet of texts (02, C-11): its rows, where each lies, and the totals over them.
 -- `limit` is that of a sheet, `size` that of a text, `cap` that of a list.
 use Prim.Native.Nat.{ℕ, _+_, _-_}
-use mathlib.Core.Bool.{Bool, true, false, _&&_}
+use mathlib.Core.Bool.{true, false, _&&_}
 use mathlib.Core.List.{List, [], _∷_}
 use lib.Dec.{eqb, leb, ltb}
 use lib.ListN.{length, take, drop}

@@ -1,6 +1,5 @@
 -- `part` meets its contract: each case is a law of the definition.
 use borrow.Author.Needs.{needs}
-use mathlib.Core.Path.{refl}
 use Rattle.sheet.proofs.Cutting as L
 use Rattle.sheet.proofs.lines.part.Statement.{statement}
 use Rattle.sheet.proofs.lines.part.Tie as tie

@@ -1,5 +1,4 @@
 -- `answer` meets its contract: by its test.
-use borrow.Author.Needs.{needs}
 use borrow.Author.Tests.{le-leb, lt-leb}
 use lib.ListN.{length}
 use Rattle.sheet.proofs.sums.answer.Statement.{statement}

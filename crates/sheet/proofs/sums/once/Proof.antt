@@ -1,5 +1,4 @@
 -- `once` meets its contract: by its test.
-use borrow.Author.Needs.{needs}
 use borrow.Author.Tests.{eq-eqb, ne-eqb}
 use Rattle.sheet.proofs.sums.once.Statement.{statement}
 use Rattle.sheet.proofs.sums.once.Tie as tie

@@ -1,6 +1,5 @@
 -- `total` meets its contract: the totals so far, with those of the rows from the cut's place on, are the sheet's.
 use Prim.Native.Nat.{_-_}
-use native.Mathlib.Omega.{arith}
 use borrow.Author.Needs.{needs}
 use lib.ListN.{length}
 use Rattle.sheet.proofs.Summing as L
