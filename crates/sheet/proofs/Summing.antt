@@ -14,7 +14,7 @@ use Rattle.meaning.specs.Refusals as R
 use Rattle.meaning.specs.declared.Reading.{Reading}
 use Rattle.sheet.specs.declared.Counted.{Counted}
 use Rattle.sheet.specs.declared.Cut.{Cut}
-use Rattle.sheet.specs.declared.Totals.{Totals}
+use Rattle.sheet.specs.declared.sums.Totals.{Totals}
 use Rattle.sheet.specs.declared.sums.Told.{Told}
 use Rattle.sheet.specs.Sheet.{rows, yielded, cut, bytes-of, answered, sum, counted, summed, totals}
 use Rattle.sheet.specs.Parts.{told, none, one, _plus_, added, Below}

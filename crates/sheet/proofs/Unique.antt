@@ -23,7 +23,7 @@ use Rattle.sheet.specs.Sheet.{cut, bytes-of}
 use Rattle.sheet.proofs.Counted.number.Reads as number
 use Rattle.sheet.proofs.Counted.number.Kinds as number-kinds
 use Rattle.sheet.proofs.lines.cut_at.Reads as cut-at
-use Rattle.sheet.proofs.sums.total.Reads as total
+use Rattle.sheet.proofs.totals.Reads as totals
 use Rattle.sheet.proofs.walk as walk
 use Rattle.sheet.proofs.next as next
 use Rattle.sheet.proofs.row as row
@@ -34,8 +34,8 @@ number-one f m n s t p q = p ∙ sym q
 pub cut-at-one : One cut-at.Post
 cut-at-one κs a x y s t p q = p ∙ sym q
 
-pub total-one : One total.Post
-total-one κs a x y s t p q = p ∙ sym q
+pub totals-one : One totals.Post
+totals-one κs a x y s t p q = p ∙ sym q
 
 -- ── the walker ──
 

@@ -6,7 +6,7 @@ use Rattle.meaning.specs.Refusals as R
 use Rattle.meaning.specs.declared.Reading.{Reading}
 use Rattle.sheet.specs.declared.Counted.{Counted}
 use Rattle.sheet.specs.declared.Counted.the-variants.{Whole}
-use Rattle.sheet.specs.declared.Totals.{Totals}
+use Rattle.sheet.specs.declared.sums.Totals.{Totals}
 use Rattle.sheet.specs.declared.sums.Told.{Told}
 
 abbrev pub told : Reading → Told

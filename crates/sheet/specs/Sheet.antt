@@ -12,7 +12,7 @@ use Rattle.meaning.specs.declared.Reading.{Reading}
 use Rattle.sheet.specs.declared.Counted.{Counted}
 use Rattle.sheet.specs.declared.Counted.the-variants.{Whole, TooLong}
 use Rattle.sheet.specs.declared.Cut.{Cut}
-use Rattle.sheet.specs.declared.Totals.{Totals}
+use Rattle.sheet.specs.declared.sums.Totals.{Totals}
 
 -- ── rows ──
 

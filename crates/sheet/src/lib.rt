@@ -4,9 +4,13 @@ mod sums;
 
 pub use lines::cut_at;
 use lines::part;
-pub use sums::total;
+pub use sums::Totals;
+use sums::added;
+use sums::answer;
+use sums::none;
+use sums::tell;
 ghost use mathlib.Core.Path.{_≡_};
-ghost use Rattle.sheet.specs.Sheet.{number, cut, bytes-of};
+ghost use Rattle.sheet.specs.Sheet.{number, cut, bytes-of, totals};
 
 // A sheet has at most this many bytes.
 pub const LIMIT: usize = 65536;
@@ -37,21 +41,6 @@ pub struct Cut {
     pub next: usize,
 }
 
-// The totals over the rows: how many, how many of each answer, and the default counts.
-pub struct Totals {
-    pub answer: Counted,
-    pub rows: usize,
-    pub accepted: usize,
-    pub refused_1: usize,
-    pub refused_2: usize,
-    pub refused_3: usize,
-    pub refused_4: usize,
-    pub a: usize,
-    pub b: usize,
-    pub c: usize,
-    pub d: usize,
-}
-
 // A walker: the sheet that it stands on, and its place there.
 pub struct Walker<'a> {
     pub sheet: &'a [u8],
@@ -80,4 +69,19 @@ pub fn row<'a>(w: Walker<'a>, c: Cut) -> &'a [u8]
     ensures { λ r. ⌜ now r ≡ bytes-of c (now (w .entry .sheet)) ⌝ }
 {
     part(w.sheet, c.first, c.end)
+}
+
+// The totals of a sheet. One over the limit has no row, so that all its counts are 0.
+pub fn totals(sheet: &[u8]) -> Totals
+    ensures { λ r. ⌜ r ≡ totals 65536 8 1024 (now (sheet .entry)) ⌝ }
+{
+    let mut t = none(answer(sheet));
+    let mut c = cut_at(sheet, 0);
+    while c.found {
+        let first = c.first;
+        let end = c.end;
+        t = added(t, tell(&sheet[first..end]));
+        c = cut_at(sheet, c.next);
+    }
+    t
 }

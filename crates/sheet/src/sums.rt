@@ -1,14 +1,27 @@
 // The totals.
 use crate::Counted;
 use crate::LIMIT;
-use crate::Totals;
-use crate::cut_at;
 use meaning::Note;
 ghost use Prim.Native.Nat.{_^_};
 ghost use mathlib.Core.Path.{_≡_};
 ghost use Rattle.meaning.specs.Ordinary.{ordinary};
-ghost use Rattle.sheet.specs.Sheet.{answered, totals};
+ghost use Rattle.sheet.specs.Sheet.{answered};
 ghost use Rattle.sheet.specs.Parts.{once, told, none, added, Below};
+
+// The totals over the rows: how many, how many of each answer, and the default counts.
+pub struct Totals {
+    pub answer: Counted,
+    pub rows: usize,
+    pub accepted: usize,
+    pub refused_1: usize,
+    pub refused_2: usize,
+    pub refused_3: usize,
+    pub refused_4: usize,
+    pub a: usize,
+    pub b: usize,
+    pub c: usize,
+    pub d: usize,
+}
 
 // What of a row's reading is counted: the refusal's number, 0 where it is accepted, and the default counts.
 pub(crate) struct Told {
@@ -16,7 +29,7 @@ pub(crate) struct Told {
     note: Note,
 }
 
-fn tell(row: &[u8]) -> Told
+pub(crate) fn tell(row: &[u8]) -> Told
     ensures { λ r. ⌜ r ≡ told (ordinary 8 1024 (now (row .entry))) ⌝ }
 {
     let r = ordinary::parse(row);
@@ -35,7 +48,7 @@ fn once(number: u8, n: u8) -> usize
 }
 
 // The totals, with one row more.
-fn added(t: Totals, r: Told) -> Totals
+pub(crate) fn added(t: Totals, r: Told) -> Totals
     requires { ⌜ Below (2 ^ 64) (added t r) ⌝ }
     ensures { λ s. ⌜ s ≡ added t r ⌝ }
 {
@@ -57,7 +70,7 @@ fn added(t: Totals, r: Told) -> Totals
 }
 
 // No row yet.
-fn none(answer: Counted) -> Totals
+pub(crate) fn none(answer: Counted) -> Totals
     ensures { λ r. ⌜ r ≡ none answer ⌝ }
 {
     Totals {
@@ -75,7 +88,7 @@ fn none(answer: Counted) -> Totals
     }
 }
 
-fn answer(sheet: &[u8]) -> Counted
+pub(crate) fn answer(sheet: &[u8]) -> Counted
     ensures { λ r. ⌜ r ≡ answered 65536 (now (sheet .entry)) ⌝ }
 {
     if sheet.len() <= LIMIT {
@@ -83,19 +96,4 @@ fn answer(sheet: &[u8]) -> Counted
     } else {
         Counted::TooLong
     }
-}
-
-// The totals of a sheet. One over the limit has no row, so that all its counts are 0.
-pub fn total(sheet: &[u8]) -> Totals
-    ensures { λ r. ⌜ r ≡ totals 65536 8 1024 (now (sheet .entry)) ⌝ }
-{
-    let mut t = none(answer(sheet));
-    let mut c = cut_at(sheet, 0);
-    while c.found {
-        let first = c.first;
-        let end = c.end;
-        t = added(t, tell(&sheet[first..end]));
-        c = cut_at(sheet, c.next);
-    }
-    t
 }

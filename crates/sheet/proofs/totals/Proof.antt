@@ -1,10 +1,10 @@
--- `total` meets its contract: the totals so far, with those of the rows from the cut's place on, are the sheet's.
+-- `totals` meets its contract: the totals so far, with those of the rows from the cut's place on, are the sheet's.
 use Prim.Native.Nat.{_-_}
 use borrow.Author.Needs.{needs}
 use lib.ListN.{length}
 use Rattle.sheet.proofs.Summing as L
-use Rattle.sheet.proofs.sums.total.Statement.{statement}
-use Rattle.sheet.proofs.sums.total.Tie as tie
+use Rattle.sheet.proofs.totals.Statement.{statement}
+use Rattle.sheet.proofs.totals.Tie as tie
 
 abbrev Inv-loop : tie.InvT-loop
 Inv-loop sheet t₀ c₀ t c = L.Counting sheet t c
@@ -12,8 +12,8 @@ Inv-loop sheet t₀ c₀ t c = L.Counting sheet t c
 abbrev μ-loop : tie.MeasureT-loop
 μ-loop sheet t₀ c₀ t c = length sheet - c .first
 
-pub total-spec : {M : Type 1} → statement M
-total-spec =
+pub totals-spec : {M : Type 1} → statement M
+totals-spec =
     tie.close
     (tie.spec
     Inv-loop
