@@ -21,6 +21,8 @@ use Rattle.lexis.specs.Text.{Text}
 use Rattle.capi.specs.declared.TypetextReading.{TypetextReading}
 use Rattle.capi.proofs.collect.typetext_feed.Reads as typetext-feed
 use Rattle.capi.proofs.collect.typetext_end.Reads as typetext-end
+use Rattle.capi.proofs.count.typetext_next_row.Reads as typetext-next-row
+use Rattle.capi.proofs.count.typetext_totals.Reads as typetext-totals
 use Rattle.capi.proofs.typetext_parse.Reads as typetext-parse
 use Rattle.capi.proofs.typetext_parse_strict.Reads as typetext-parse-strict
 use Rattle.capi.proofs.write.typetext_write as typetext-write
@@ -30,6 +32,12 @@ typetext-parse-one κs a x y s t p q = p ∙ sym q
 
 pub typetext-parse-strict-one : One typetext-parse-strict.Post
 typetext-parse-strict-one κs a x y s t p q = p .numbers ∙ ap in-numbers (one-answer 8 1024 (now (a .0)) (p .reading) (q .reading) (p .strictly) (q .strictly)) ∙ sym (q .numbers)
+
+pub typetext-totals-one : One typetext-totals.Post
+typetext-totals-one κs a x y s t p q = p ∙ sym q
+
+pub typetext-next-row-one : One typetext-next-row.Post
+typetext-next-row-one κs a x y s t p q = p ∙ sym q
 
 -- of a function that is proved by hand the check generates the clause alone: it is this fact
 abbrev pub Wrote : (κs : Lfts 2) → ArgsD typetext-write.signature κs → ResD typetext-write.signature κs → AtExit typetext-write.ended κs → Type 0

@@ -1,3 +1,4 @@
 -- What crosses to C.
 pub mod Abi
 pub mod Block
+pub mod Sheets

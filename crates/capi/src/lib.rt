@@ -1,9 +1,15 @@
-// The C face: numbers and byte slices in and out, nothing decided here (docs/ABI.md). Here the readers; the writer in `write`, the collector in `collect`.
+// The C face: numbers and byte slices in and out, nothing decided here (docs/ABI.md). Here the readers; the writer in `write`, the collector
+// in `collect`, sheets in `count`.
 mod collect;
+mod count;
 mod write;
 
 pub use collect::typetext_end;
 pub use collect::typetext_feed;
+pub use count::TypetextRow;
+pub use count::TypetextTotals;
+pub use count::typetext_next_row;
+pub use count::typetext_totals;
 use meaning::Kind;
 use meaning::Padding;
 use meaning::Reading;
