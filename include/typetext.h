@@ -5,16 +5,17 @@
  * For C99 and C++, on x86-64 with the System V calling convention. Link with libtypetext.a; tools/library makes it and
  * lays this file beside it.
  *
- * Five calls: an ordinary reader, which reads what Type::parse of cutile-ir reads and counts the defaults that it took;
- * a strict reader, which takes no default; a writer; and two by which the ordinary reader takes a text in pieces. They
- * keep no pointer, allocate nothing, share nothing between threads, and write nowhere but into their answer and the room
- * or block that they are lent.
+ * Seven calls: an ordinary reader, which reads what Type::parse of cutile-ir reads and counts the defaults that it took;
+ * a strict reader, which takes no default; a writer; two by which the ordinary reader takes a text in pieces; and two for
+ * a sheet of texts, one a row, which count it and walk over its rows. They keep no pointer, allocate nothing, share
+ * nothing between threads, and write nowhere but into their answer and the room or block that they are lent.
  *
- * A caller has to vouch for what C can't check and for nothing else: that the pointer of a text or a piece leads to `len`
- * readable bytes, a record's pointer to one whole typetext_record, a room's pointer to `room_len` writable bytes that are
- * no part of that record, a block's to `block_len` writable bytes that are no part of that piece. With a length of 0 the
- * pointer isn't followed. What the bytes and numbers are is the library's concern: any text gets an answer, and a record
- * or block that holds wrong numbers is refused. Answers come back by value, so there is no size of an answer to get wrong.
+ * A caller has to vouch for what C can't check and for nothing else: that the pointer of a text, a piece or a sheet leads
+ * to `len` readable bytes, a record's pointer to one whole typetext_record, a room's pointer to `room_len` writable bytes
+ * that are no part of that record, a block's to `block_len` writable bytes that are no part of that piece. With a length
+ * of 0 the pointer isn't followed. What the bytes and numbers are is the library's concern: any text, any sheet and any
+ * place in it get an answer, and a record or block that holds wrong numbers is refused. Answers come back by value, so
+ * there is no size of an answer to get wrong.
  */
 #ifndef TYPETEXT_H
 #define TYPETEXT_H
@@ -41,6 +42,9 @@ extern "C" {
 
 /* The size of a collector, the block in which a text that comes in pieces is joined. */
 #define TYPETEXT_COLLECTOR 1027
+
+/* The most bytes that a sheet of texts can have; a longer one is refused with TYPETEXT_SHEET_TOO_LONG. */
+#define TYPETEXT_LONGEST_SHEET 65536
 
 /* An entry of `shape` or `strides` that is known only when the kernel runs; written `?`. */
 #define TYPETEXT_DYNAMIC INT64_MIN
@@ -90,7 +94,7 @@ enum typetext_padding {
 
 /* Why a call refuses: the `refusal` of its answer. Each is given exactly when what stands beside it holds and none that
  * comes before it does; the order is 1, 2, 3, 4 for the ordinary reader, 1, 2, 5, 4 for the strict one, 6, 7, 8 for the
- * writer and 6, 1, 2, 3, 4 for a collector. */
+ * writer and 6, 1, 2, 3, 4 for a collector. A sheet has 9 alone. */
 enum typetext_refusal {
     TYPETEXT_ACCEPTED = 0,
     TYPETEXT_TOO_LONG = 1,       /* readers: the text has over 1,024 bytes */
@@ -101,7 +105,8 @@ enum typetext_refusal {
     TYPETEXT_NOT_NORMAL = 6,     /* writer: the record isn't normal, or has a number that is no record's */
     TYPETEXT_NOT_IN_ORDER = 6,   /* collector: the block isn't in order, or has another size */
     TYPETEXT_NO_TEXT = 7,        /* writer: the record has no text */
-    TYPETEXT_ROOM_TOO_SHORT = 8  /* writer: the room is shorter than the text */
+    TYPETEXT_ROOM_TOO_SHORT = 8, /* writer: the room is shorter than the text */
+    TYPETEXT_SHEET_TOO_LONG = 9  /* sheet: it has over 65,536 bytes */
 };
 
 /* A type. It is normal if no length is over 8 and all that its kind doesn't use is zero, entries past a length included.
@@ -152,6 +157,30 @@ typedef struct typetext_written {
     uint8_t refusal; /* an enum typetext_refusal */
 } typetext_written;
 
+/* The totals of a sheet. The five numbers after `rows` sum to it. For a refused sheet all are 0. */
+typedef struct typetext_sheet_totals {
+    size_t rows;      /* rows of the sheet */
+    size_t accepted;  /* rows that typetext_parse accepts */
+    size_t refused_1; /* rows that it refuses with TYPETEXT_TOO_LONG */
+    size_t refused_2; /* with TYPETEXT_NOT_ASCII */
+    size_t refused_3; /* with TYPETEXT_NO_TYPE */
+    size_t refused_4; /* with TYPETEXT_LIST_TOO_LONG */
+    size_t a;         /* sums of the readings' counts `a` to `d` */
+    size_t b;
+    size_t c;
+    size_t d;
+    uint8_t refusal; /* TYPETEXT_ACCEPTED or TYPETEXT_SHEET_TOO_LONG */
+} typetext_sheet_totals;
+
+/* Where a row of a sheet lies. Where there is none, `first`, `end` and `next` are the place that was asked for. */
+typedef struct typetext_row {
+    size_t first;    /* the place of its first byte, from 0 */
+    size_t end;      /* the place behind its last byte: it has end - first bytes, none of them a line feed */
+    size_t next;     /* the place at which the next row begins, if there is one */
+    uint8_t found;   /* 1: there is a row; else 0 */
+    uint8_t refusal; /* TYPETEXT_ACCEPTED or TYPETEXT_SHEET_TOO_LONG */
+} typetext_row;
+
 /* The ordinary reader: what Type::parse returns for this text, or refusal 1, 2, 3 or 4. Look at `a` to `d` before you
  * trust the type: where all four are 0, no default was taken. */
 typetext_reading typetext_parse(const uint8_t *text, size_t len);
@@ -177,6 +206,20 @@ uint8_t typetext_feed(uint8_t *block, size_t block_len, const uint8_t *piece, si
 /* The end: what typetext_parse answers on the joined bytes, wherever they were cut, or refusal 6. After all but 6 the
  * block is fresh again and takes the next text. */
 typetext_reading typetext_end(uint8_t *block, size_t block_len);
+
+/* A sheet of texts: each row ends with a line feed, byte 10, which is no part of it; a last row without one counts if it
+ * has a byte. A sheet of over TYPETEXT_LONGEST_SHEET bytes is refused with 9 and yields no row. */
+
+/* The totals: how many rows there are, how typetext_parse answers them, and how many defaults it took in all. */
+typetext_sheet_totals typetext_totals(const uint8_t *sheet, size_t len);
+
+/* The row that begins at this place. To walk over a sheet, begin with place 0 and go on with `next` while there is a row:
+ *
+ *     for (row = typetext_next_row(sheet, len, 0); row.found; row = typetext_next_row(sheet, len, row.next))
+ *         reading = typetext_parse(sheet + row.first, row.end - row.first);
+ *
+ * Any place gets an answer: one within a row yields what is left of it, one at the end or past it none. */
+typetext_row typetext_next_row(const uint8_t *sheet, size_t len, size_t place);
 
 #ifdef __cplusplus
 }

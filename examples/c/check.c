@@ -1,5 +1,5 @@
-/* Holds header and library to docs/ABI.md: layout, every refusal, rooms, wrong numbers, texts in pieces. Prints what
- * differs; the last line says how many checks held, and the exit status is 1 if one didn't. */
+/* Holds header and library to docs/ABI.md: layout, every refusal, rooms, wrong numbers, texts in pieces, sheets. Prints
+ * what differs; the last line says how many checks held, and the exit status is 1 if one didn't. */
 #include "typetext.h"
 
 #include <stdio.h>
@@ -60,16 +60,42 @@ static void layout(void)
     CHECK(sizeof(typetext_written) == 16);
 }
 
+static void layout_of_sheets(void)
+{
+    OFFSET(typetext_sheet_totals, rows, 0);
+    OFFSET(typetext_sheet_totals, accepted, 8);
+    OFFSET(typetext_sheet_totals, refused_1, 16);
+    OFFSET(typetext_sheet_totals, refused_2, 24);
+    OFFSET(typetext_sheet_totals, refused_3, 32);
+    OFFSET(typetext_sheet_totals, refused_4, 40);
+    OFFSET(typetext_sheet_totals, a, 48);
+    OFFSET(typetext_sheet_totals, b, 56);
+    OFFSET(typetext_sheet_totals, c, 64);
+    OFFSET(typetext_sheet_totals, d, 72);
+    OFFSET(typetext_sheet_totals, refusal, 80);
+    CHECK(sizeof(typetext_sheet_totals) == 88);
+    OFFSET(typetext_row, first, 0);
+    OFFSET(typetext_row, end, 8);
+    OFFSET(typetext_row, next, 16);
+    OFFSET(typetext_row, found, 24);
+    OFFSET(typetext_row, refusal, 25);
+    CHECK(sizeof(typetext_row) == 32);
+}
+
 /* In C99 there is no alignof: what a byte in front pushes a struct to is its alignment. */
 struct byte_record { char c; typetext_record x; };
 struct byte_reading { char c; typetext_reading x; };
 struct byte_written { char c; typetext_written x; };
+struct byte_totals { char c; typetext_sheet_totals x; };
+struct byte_row { char c; typetext_row x; };
 
 static void alignment(void)
 {
     OFFSET(struct byte_record, x, 8);
     OFFSET(struct byte_reading, x, 8);
     OFFSET(struct byte_written, x, 8);
+    OFFSET(struct byte_totals, x, 8);
+    OFFSET(struct byte_row, x, 8);
 }
 
 static void constants(void)
@@ -78,6 +104,7 @@ static void constants(void)
     CHECK(TYPETEXT_DYNAMIC < -INT64_MAX);
     CHECK(TYPETEXT_CAPACITY == 8 && TYPETEXT_LONGEST_TEXT == 1024 && TYPETEXT_LONGEST_WRITTEN == 773);
     CHECK(TYPETEXT_COLLECTOR == 1027 && TYPETEXT_NOT_IN_ORDER == 6);
+    CHECK(TYPETEXT_LONGEST_SHEET == 65536 && TYPETEXT_SHEET_TOO_LONG == 9);
 }
 
 static void kinds(void)
@@ -460,9 +487,140 @@ static void a_block_of_zeros(void)
     CHECK(all_are(block, sizeof block, 0));
 }
 
+/* The row at this place, by hand. */
+static typetext_row row_by_hand(const uint8_t *sheet, size_t len, size_t place)
+{
+    typetext_row row;
+    row.first = row.end = row.next = place;
+    row.found = place < len;
+    row.refusal = TYPETEXT_ACCEPTED;
+    while (row.end < len && sheet[row.end] != '\n')
+        row.end++;
+    row.next = row.end < len ? row.end + 1 : row.end;
+    return row;
+}
+
+static int same_row(const typetext_row *r, const typetext_row *s)
+{
+    return r->first == s->first && r->end == s->end && r->next == s->next && r->found == s->found &&
+           r->refusal == s->refusal;
+}
+
+/* Every place gets its answer, past the end too. */
+static void rows_at_every_place(const uint8_t *sheet, size_t len)
+{
+    size_t place;
+    typetext_row row, wanted;
+    for (place = 0; place < len + 3; place++) {
+        row = typetext_next_row(sheet, len, place);
+        wanted = row_by_hand(sheet, len, place);
+        CHECK(same_row(&row, &wanted));
+    }
+    row = typetext_next_row(sheet, len, SIZE_MAX);
+    CHECK(row.found == 0 && row.first == SIZE_MAX && row.end == SIZE_MAX && row.next == SIZE_MAX && row.refusal == 0);
+}
+
+/* The totals of the rows that the walk yields. */
+static typetext_sheet_totals walked(const uint8_t *sheet, size_t len)
+{
+    typetext_sheet_totals t;
+    typetext_row row;
+    memset(&t, 0, sizeof t);
+    for (row = typetext_next_row(sheet, len, 0); row.found; row = typetext_next_row(sheet, len, row.next)) {
+        typetext_reading r = typetext_parse(sheet + row.first, row.end - row.first);
+        t.rows++;
+        t.accepted += r.refusal == TYPETEXT_ACCEPTED;
+        t.refused_1 += r.refusal == TYPETEXT_TOO_LONG;
+        t.refused_2 += r.refusal == TYPETEXT_NOT_ASCII;
+        t.refused_3 += r.refusal == TYPETEXT_NO_TYPE;
+        t.refused_4 += r.refusal == TYPETEXT_LIST_TOO_LONG;
+        t.a += r.a;
+        t.b += r.b;
+        t.c += r.c;
+        t.d += r.d;
+    }
+    t.refusal = row.refusal;
+    return t;
+}
+
+/* The bytes that a call sets: the end is padding. */
+static int same_totals(const typetext_sheet_totals *t, const typetext_sheet_totals *u)
+{
+    return memcmp(t, u, offsetof(typetext_sheet_totals, refusal) + 1) == 0;
+}
+
+/* The totals are those of the walk, and as many rows as said. */
+static void counted(int line, const uint8_t *sheet, size_t len, size_t rows)
+{
+    typetext_sheet_totals t = typetext_totals(sheet, len), w = walked(sheet, len);
+    check_at(line, same_totals(&t, &w), "the totals are those of the walk");
+    check_at(line, t.rows == rows && t.refusal == TYPETEXT_ACCEPTED, "the number of rows");
+    check_at(line, t.rows == t.accepted + t.refused_1 + t.refused_2 + t.refused_3 + t.refused_4, "their sum");
+    if (len < 1000)
+        rows_at_every_place(sheet, len);
+}
+
+#define COUNTED(text, rows) counted(__LINE__, bytes(text), strlen(text), (rows))
+
+static void sheets(void)
+{
+    static const char defaults[] = "tile<xxf32>\npartition_view<tile=(q), tensor_view<4xf32>>\ntile<zxf32>";
+    typetext_sheet_totals t = typetext_totals(bytes("f32\ntile<f32\n"), 13);
+    CHECK(t.rows == 2 && t.accepted == 1 && t.refused_1 == 0 && t.refused_2 == 0 && t.refused_3 == 1);
+    CHECK(t.refused_4 == 0 && t.a == 0 && t.b == 0 && t.c == 0 && t.d == 0 && t.refusal == TYPETEXT_ACCEPTED);
+    counted(__LINE__, NULL, 0, 0);
+    COUNTED("f32", 1);
+    COUNTED("f32\n", 1);
+    COUNTED("f32\ntile<f32", 2);
+    COUNTED("\n", 1);
+    COUNTED("\n\nf32\n\n", 4);
+    COUNTED("\r\n \n\r", 3);
+    COUNTED("f32\x80\ntile<1x1x1x1x1x1x1x1x1xf32>\n\xff", 3);
+    t = typetext_totals(bytes(defaults), sizeof defaults - 1);
+    CHECK(t.rows == 3 && t.accepted == 3 && t.a == 3 && t.b == 1 && t.c == 0 && t.d == 2);
+}
+
+static uint8_t sheet[TYPETEXT_LONGEST_SHEET + 1];
+
+static void rows_of_length(void)
+{
+    typetext_sheet_totals t;
+    memset(sheet, ' ', 2051);
+    memcpy(sheet, "f32", 3);
+    sheet[1024] = '\n';
+    memcpy(sheet + 1025, "f32", 3);
+    sheet[2050] = '\n';
+    counted(__LINE__, sheet, 2051, 2);
+    t = typetext_totals(sheet, 2051);
+    CHECK(t.accepted == 1 && t.refused_1 == 1);
+}
+
+/* Up to 65,536 bytes; past them there are no rows, at any place. */
+static void sheets_of_length(void)
+{
+    static const size_t places[] = {0, 1, TYPETEXT_LONGEST_SHEET, TYPETEXT_LONGEST_SHEET + 1, SIZE_MAX};
+    typetext_sheet_totals t, none;
+    int i;
+    memset(sheet, '\n', sizeof sheet);
+    counted(__LINE__, sheet, TYPETEXT_LONGEST_SHEET, TYPETEXT_LONGEST_SHEET);
+    memset(&none, 0, sizeof none);
+    none.refusal = TYPETEXT_SHEET_TOO_LONG;
+    t = typetext_totals(sheet, sizeof sheet);
+    CHECK(same_totals(&t, &none));
+    for (i = 0; i < 5; i++) {
+        typetext_row row = typetext_next_row(sheet, sizeof sheet, places[i]);
+        CHECK(row.found == 0 && row.refusal == TYPETEXT_SHEET_TOO_LONG);
+        CHECK(row.first == places[i] && row.end == places[i] && row.next == places[i]);
+    }
+    memset(sheet, 'f', sizeof sheet);
+    counted(__LINE__, sheet, TYPETEXT_LONGEST_SHEET, 1);
+    CHECK(typetext_totals(sheet, TYPETEXT_LONGEST_SHEET).refused_1 == 1);
+}
+
 int main(void)
 {
     layout();
+    layout_of_sheets();
     alignment();
     constants();
     kinds();
@@ -483,6 +641,9 @@ int main(void)
     wrong_blocks();
     blocks_of_another_size();
     a_block_of_zeros();
+    sheets();
+    rows_of_length();
+    sheets_of_length();
     printf("%d checks held, %d failed\n", held, failed);
     return failed != 0;
 }
