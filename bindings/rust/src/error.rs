@@ -3,7 +3,7 @@
 use crate::raw::Reading;
 use core::fmt;
 
-/// Why a text or a type was refused.
+/// Why a text, a type or a sheet was refused.
 ///
 /// | Number | Given exactly when |
 /// |---|---|
@@ -14,6 +14,7 @@ use core::fmt;
 /// | 5 | strict reading: the text isn't a strict form |
 /// | 6 | building: the type isn't normal (a list of over 8 entries, or a part that its kind doesn't have) |
 /// | 7 | building or writing: the type has no text |
+/// | 9 | the sheet has over 65,536 bytes |
 ///
 /// Each is given only where none that comes before it holds; a strict reading tries 5 before 4. The library's number 8, a
 /// room shorter than the text, can't come up here, as a [`Text`](crate::Text) has room for every text.
@@ -47,7 +48,7 @@ impl Error {
         }
     }
 
-    /// The refusal's number, 1 to 7.
+    /// The refusal's number, 1 to 7 or 9.
     pub fn number(&self) -> u8 {
         self.number
     }
@@ -67,7 +68,8 @@ impl Error {
             5 => "not a strict form",
             6 => "not a normal type",
             7 => "a type without text",
-            _ => "room shorter than the text",
+            8 => "room shorter than the text",
+            _ => "sheet over 65,536 bytes",
         }
     }
 }

@@ -34,7 +34,8 @@
 //! # Ok::<(), typetext::Error>(())
 //! ```
 //!
-//! [`Collector`] reads so too, a text that comes in pieces.
+//! [`Collector`] reads so too, a text that comes in pieces, and [`Sheet`] a sheet of texts: it counts them, and yields them
+//! row after row.
 //!
 //! A type can also be built, and then always has a text:
 //!
@@ -58,6 +59,7 @@ mod collector;
 mod error;
 mod names;
 mod raw;
+mod sheet;
 mod text;
 mod types;
 
@@ -65,6 +67,7 @@ pub use collector::Collector;
 pub use error::Error;
 pub use names::{Kind, Padding, Scalar};
 pub use raw::CAPACITY;
+pub use sheet::{Row, Rows, Sheet, Totals};
 pub use text::{Text, LONGEST_WRITTEN};
 pub use types::{Defaults, Type};
 
@@ -73,3 +76,6 @@ pub const DYNAMIC: i64 = i64::MIN;
 
 /// The most bytes that the readers take.
 pub const LONGEST_TEXT: usize = 1024;
+
+/// The most bytes of a sheet.
+pub const LONGEST_SHEET: usize = 65536;

@@ -47,26 +47,54 @@ pub struct Written {
     pub refusal: u8,
 }
 
+#[repr(C)]
+pub struct Totals {
+    pub rows: usize,
+    pub accepted: usize,
+    pub refused_1: usize,
+    pub refused_2: usize,
+    pub refused_3: usize,
+    pub refused_4: usize,
+    pub a: usize,
+    pub b: usize,
+    pub c: usize,
+    pub d: usize,
+    pub refusal: u8,
+}
+
+#[repr(C)]
+pub struct Row {
+    pub first: usize,
+    pub end: usize,
+    pub next: usize,
+    pub found: u8,
+    pub refusal: u8,
+}
+
 const _: () = assert!(size_of::<Record>() == 280 && align_of::<Record>() == 8);
 const _: () = assert!(size_of::<Reading>() == 328 && align_of::<Reading>() == 8);
 const _: () = assert!(size_of::<Written>() == 16 && align_of::<Written>() == 8);
+const _: () = assert!(size_of::<Totals>() == 88 && align_of::<Totals>() == 8);
+const _: () = assert!(size_of::<Row>() == 32 && align_of::<Row>() == 8);
 
 extern "C" {
     fn typetext_write(record: *const Record, room: *mut u8, room_len: usize) -> Written;
     fn typetext_feed(block: *mut u8, block_len: usize, piece: *const u8, len: usize) -> u8;
 }
 
-pub use reader::{end, parse, parse_strict};
+pub use large::{end, next_row, parse, parse_strict, totals};
 
-/// A reading comes back by value, as C says.
+/// A large answer comes back by value, as C says.
 #[cfg(target_arch = "x86_64")]
-mod reader {
-    use super::Reading;
+mod large {
+    use super::{Reading, Row, Totals};
 
     extern "C" {
         fn typetext_parse(text: *const u8, len: usize) -> Reading;
         fn typetext_parse_strict(text: *const u8, len: usize) -> Reading;
         fn typetext_end(block: *mut u8, block_len: usize) -> Reading;
+        fn typetext_totals(sheet: *const u8, len: usize) -> Totals;
+        fn typetext_next_row(sheet: *const u8, len: usize, place: usize) -> Row;
     }
 
     pub fn parse(text: &[u8]) -> Reading {
@@ -83,24 +111,36 @@ mod reader {
         // SAFETY: pointer and length are of one slice, which is lent to be altered.
         unsafe { typetext_end(block.as_mut_ptr(), block.len()) }
     }
+
+    pub fn totals(sheet: &[u8]) -> Totals {
+        // SAFETY: pointer and length are of one slice, which the call only reads.
+        unsafe { typetext_totals(sheet.as_ptr(), sheet.len()) }
+    }
+
+    pub fn next_row(sheet: &[u8], place: usize) -> Row {
+        // SAFETY: as above; the call trusts no place.
+        unsafe { typetext_next_row(sheet.as_ptr(), sheet.len(), place) }
+    }
 }
 
 /// The library's code is made for x86-64, where a large result is a pointer in front of the arguments. Compiled once more
 /// for Arm it still takes that pointer as its first argument, which is not how C returns a struct there.
 #[cfg(target_arch = "aarch64")]
-mod reader {
-    use super::Reading;
+mod large {
+    use super::{Reading, Row, Totals};
     use core::mem::MaybeUninit;
 
-    type Call = unsafe extern "C" fn(*mut Reading, *const u8, usize);
+    type Call<A> = unsafe extern "C" fn(*mut A, *const u8, usize);
 
     extern "C" {
         fn typetext_parse(answer: *mut Reading, text: *const u8, len: usize);
         fn typetext_parse_strict(answer: *mut Reading, text: *const u8, len: usize);
         fn typetext_end(answer: *mut Reading, block: *mut u8, block_len: usize);
+        fn typetext_totals(answer: *mut Totals, sheet: *const u8, len: usize);
+        fn typetext_next_row(answer: *mut Row, sheet: *const u8, len: usize, place: usize);
     }
 
-    fn answer(call: Call, text: &[u8]) -> Reading {
+    fn answer<A>(call: Call<A>, text: &[u8]) -> A {
         let mut answer = MaybeUninit::uninit();
         // SAFETY: pointer and length are of one slice, which the call only reads; it sets every field of its answer.
         unsafe {
@@ -122,6 +162,19 @@ mod reader {
         // SAFETY: pointer and length are of one slice, lent to be altered; the call sets every field of its answer.
         unsafe {
             typetext_end(answer.as_mut_ptr(), block.as_mut_ptr(), block.len());
+            answer.assume_init()
+        }
+    }
+
+    pub fn totals(sheet: &[u8]) -> Totals {
+        answer(typetext_totals, sheet)
+    }
+
+    pub fn next_row(sheet: &[u8], place: usize) -> Row {
+        let mut answer = MaybeUninit::uninit();
+        // SAFETY: as for a text; the call trusts no place.
+        unsafe {
+            typetext_next_row(answer.as_mut_ptr(), sheet.as_ptr(), sheet.len(), place);
             answer.assume_init()
         }
     }
@@ -226,6 +279,27 @@ mod tests {
             assert_eq!(end(&mut block[..len]).refusal, 6);
             assert_eq!(block, [0; 1028]);
         }
+    }
+
+    /// Places that no walk comes to.
+    #[test]
+    fn any_place_of_a_sheet() {
+        let at = |sheet: &[u8], place| {
+            let row = next_row(sheet, place);
+            (row.found, row.first, row.end, row.next, row.refusal)
+        };
+        assert_eq!(at(b"f32\ntoken", 1), (1, 1, 3, 4, 0));
+        assert_eq!(at(b"f32\ntoken", 3), (1, 3, 3, 4, 0));
+        assert_eq!(at(b"f32\ntoken", 8), (1, 8, 9, 9, 0));
+        for place in [9, 10, usize::MAX] {
+            assert_eq!(at(b"f32\ntoken", place), (0, place, place, place, 0));
+        }
+        for place in [0, 1, 65536, 65537, usize::MAX] {
+            let none = (0, place, place, place, 9);
+            assert_eq!(at(&[b'\n'; 65537], place), none);
+        }
+        let totals = totals(&[b'\n'; 65537]);
+        assert_eq!((totals.rows, totals.refused_3, totals.refusal), (0, 0, 9));
     }
 
     #[test]
