@@ -33,6 +33,7 @@ mod requirements;
 mod rows;
 mod round;
 mod scalar;
+mod sheets;
 mod shown;
 mod spell;
 mod strict;
@@ -48,7 +49,7 @@ use std::process::ExitCode;
 
 const HELP: &str = "\
 oracle: the original Type::parse, run beside a plain second reading of the same texts; our readers,
-our writer and our collector beside plain ones
+our writer, our collector and our sheets beside plain ones
 
   oracle answer [--plain|--original]   answers for the texts of standard input, one per line
                                        (escapes \\\\ and \\xHH); by default both are read, and a
@@ -64,6 +65,8 @@ our writer and our collector beside plain ones
   oracle fragments COUNT [SEED]        our collector on COUNT runs of texts in pieces, and on blocks
                                        that are not in order, beside a plain one; each end beside
                                        our reader and both readings on the joined bytes
+  oracle sheets COUNT [SEED]           our totals and our rows on COUNT sheets of texts beside plain
+                                       ones, sheets about as long as one may be included
   oracle list [DIR]                    writes the fixed list anew: DIR/list1.txt, DIR/list2.txt, ...
   oracle check-list [DIR]              checks every row of the list, and that it would be written so
   oracle table DIR                     writes DIR/Part1.antt, DIR/Part2.antt, ...
@@ -73,7 +76,7 @@ our writer and our collector beside plain ones
 The list's DIR is crates/replay/data unless named. `--original`, `agree` and `list` need the
 original source, found at build time: CUTILE_IR_SRC names the folder that holds src/ir/types.rs.
 The other commands also hold it beside the plain reading where it is there. `compare`, `strict`,
-`round` and `fragments` need our library: TYPETEXT_LIB names the folder that holds libcapi.a.
+`round`, `fragments` and `sheets` need our library: TYPETEXT_LIB names the folder that holds libcapi.a.
 Exit: 0 all is well, 1 something differs or can't be done, 2 the command isn't understood.
 ";
 
@@ -133,6 +136,8 @@ fn run(words: &[&str], out: &mut dyn Write) -> Result<(), Failure> {
         ["round", count, seed] => round(out, count, seed)?,
         ["fragments", count] => fragments(out, count, "1")?,
         ["fragments", count, seed] => fragments(out, count, seed)?,
+        ["sheets", count] => sheets(out, count, "1")?,
+        ["sheets", count, seed] => sheets(out, count, seed)?,
         ["list"] => list(out, &list_path())?,
         ["list", folder] => list(out, Path::new(folder))?,
         ["check-list"] => check_list(out, &list_path())?,
@@ -188,6 +193,12 @@ fn fragments(out: &mut dyn Write, count: &str, seed: &str) -> Result<(), Failure
     let (count, seed) = (number(count)?, number(seed)?);
     ours::needed()?;
     Ok(fragments::run(out, count, seed)?)
+}
+
+fn sheets(out: &mut dyn Write, count: &str, seed: &str) -> Result<(), Failure> {
+    let (count, seed) = (number(count)?, number(seed)?);
+    ours::needed()?;
+    Ok(sheets::run(out, count, seed)?)
 }
 
 /// The n-th part of the list, from 1.

@@ -1,4 +1,4 @@
-//! Our readers, our writer and our collector, over the C face of the static library (docs/ABI.md).
+//! Our readers, our writer, our collector and our sheets, over the C face of the static library (docs/ABI.md).
 
 use crate::answer::Answer;
 use crate::flat::Flat;
@@ -47,14 +47,48 @@ pub fn end(_block: &mut [u8]) -> Option<Result<Answer, String>> {
     None
 }
 
+/// The totals of a sheet, in the layout of docs/ABI.md: refusals 1 to 4, counts a to d.
+#[repr(C)]
+#[derive(Debug, Clone, Copy, Default, PartialEq, Eq)]
+pub struct Totals {
+    pub rows: usize,
+    pub accepted: usize,
+    pub refused: [usize; 4],
+    pub counts: [usize; 4],
+    pub refusal: u8,
+}
+
+/// Where a row lies, in that layout.
+#[repr(C)]
+#[derive(Debug, Clone, Copy, PartialEq, Eq)]
+pub struct Row {
+    pub first: usize,
+    pub end: usize,
+    pub next: usize,
+    pub found: u8,
+    pub refusal: u8,
+}
+
+/// None where the library is absent.
+#[cfg(not(has_library))]
+pub fn totals(_sheet: &[u8]) -> Option<Totals> {
+    None
+}
+
+/// The row at this place. None where the library is absent.
+#[cfg(not(has_library))]
+pub fn next_row(_sheet: &[u8], _place: usize) -> Option<Row> {
+    None
+}
+
 #[cfg(has_library)]
-pub use with_library::{end, feed, read, read_strict};
+pub use with_library::{end, feed, next_row, read, read_strict, totals};
 #[cfg(has_library)]
 pub use writer::write;
 
 #[cfg(has_library)]
 pub mod with_library {
-    use super::{Answer, Flat};
+    use super::{Answer, Flat, Row, Totals};
     use crate::answer::{Counts, Kind, Record};
     use std::mem::MaybeUninit;
 
@@ -68,19 +102,21 @@ pub mod with_library {
         pub refusal: u8,
     }
 
-    // The reading is returned by value: on x86-64 that is a hidden pointer in front, and the
+    // A large answer is returned by value: on x86-64 that is a hidden pointer in front, and the
     // archive made for an Arm host takes the same pointer as its first argument.
-    type Call = unsafe extern "C" fn(out: *mut Reading, text: *const u8, len: usize);
+    type Call<A> = unsafe extern "C" fn(out: *mut A, text: *const u8, len: usize);
 
     extern "C" {
         fn typetext_parse(out: *mut Reading, text: *const u8, len: usize);
         fn typetext_parse_strict(out: *mut Reading, text: *const u8, len: usize);
         fn typetext_end(out: *mut Reading, block: *mut u8, block_len: usize);
         fn typetext_feed(block: *mut u8, block_len: usize, piece: *const u8, len: usize) -> u8;
+        fn typetext_totals(out: *mut Totals, sheet: *const u8, len: usize);
+        fn typetext_next_row(out: *mut Row, sheet: *const u8, len: usize, place: usize);
     }
 
     #[inline]
-    fn called(call: Call, text: &[u8]) -> Reading {
+    fn called<A>(call: Call<A>, text: &[u8]) -> A {
         let mut out = MaybeUninit::uninit();
         unsafe {
             call(out.as_mut_ptr(), text.as_ptr(), text.len());
@@ -119,6 +155,18 @@ pub mod with_library {
             out.assume_init()
         };
         Some(answered(&reading))
+    }
+
+    pub fn totals(sheet: &[u8]) -> Option<Totals> {
+        Some(called(typetext_totals, sheet))
+    }
+
+    pub fn next_row(sheet: &[u8], place: usize) -> Option<Row> {
+        let mut out = MaybeUninit::uninit();
+        Some(unsafe {
+            typetext_next_row(out.as_mut_ptr(), sheet.as_ptr(), sheet.len(), place);
+            out.assume_init()
+        })
     }
 
     fn answered(reading: &Reading) -> Result<Answer, String> {
