@@ -27,6 +27,22 @@ pub fn write(_: &Flat, _: &mut Room) {
     unreachable!("{WHY}")
 }
 
+pub fn theirs_counted(_: &str) {
+    unreachable!("{WHY}")
+}
+
+pub fn counted(_: &str) {
+    unreachable!("{WHY}")
+}
+
+pub fn theirs_rows(_: &str) -> (usize, usize) {
+    unreachable!("{WHY}")
+}
+
+pub fn rows(_: &str) -> Option<(usize, usize)> {
+    unreachable!("{WHY}")
+}
+
 pub fn theirs_accept(_: &str) -> bool {
     unreachable!("{WHY}")
 }

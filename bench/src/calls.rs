@@ -3,8 +3,9 @@
 
 use crate::flat::Flat;
 use crate::ir::types::Type;
-use crate::ours::with_library::{parse, parse_strict};
+use crate::ours::with_library::{parse, parse_strict, totals};
 use crate::ours::write as write_in;
+use crate::sheets::split;
 use std::hint::black_box;
 
 /// Room for the longest text that the writer makes.
@@ -35,7 +36,35 @@ pub fn write(record: &Flat, room: &mut Room) {
     black_box(room);
 }
 
+/// A sheet, as a Rust user would count it.
+pub fn theirs_counted(sheet: &str) {
+    black_box(theirs_rows(sheet));
+}
+
+pub fn counted(sheet: &str) {
+    black_box(&totals(sheet.as_bytes()));
+}
+
 // What they answer, for the check.
+
+/// Rows that `Type::parse` accepts and rows that it refuses.
+pub fn theirs_rows(sheet: &str) -> (usize, usize) {
+    let (mut accepted, mut refused) = (0, 0);
+    for row in split(sheet) {
+        match Type::parse(row) {
+            Some(_) => accepted += 1,
+            None => refused += 1,
+        }
+    }
+    (accepted, refused)
+}
+
+/// The same of ours.
+pub fn rows(sheet: &str) -> Option<(usize, usize)> {
+    let totals = totals(sheet.as_bytes())?;
+    let refused = totals.refused.iter().sum();
+    (totals.rows == totals.accepted + refused).then_some((totals.accepted, refused))
+}
 
 pub fn theirs_accept(text: &str) -> bool {
     Type::parse(text).is_some()

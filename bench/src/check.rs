@@ -2,12 +2,25 @@
 
 use crate::calls;
 use crate::groups::Group;
+use crate::sheets::split;
 
 /// How a wrong answer is told; a long text is cut.
 fn wrong(group: &Group, text: &str, what: String) -> String {
     let shown: String = text.chars().take(120).collect();
     let (key, len) = (group.key, text.len());
     format!("group {key}: {what} on this text of {len} bytes: {shown:?}")
+}
+
+/// Every row is counted, and by both alike.
+pub fn sheets(group: &Group) -> Result<(), String> {
+    for sheet in &group.texts {
+        let (ours, theirs) = (calls::rows(sheet), calls::theirs_rows(sheet));
+        if ours != Some(theirs) || theirs.0 != split(sheet).count() {
+            let what = format!("rows counted: {ours:?} by us, {theirs:?} by Type::parse");
+            return Err(wrong(group, sheet, what));
+        }
+    }
+    Ok(())
 }
 
 pub fn answers(group: &Group) -> Result<(), String> {

@@ -13,15 +13,21 @@ pub enum Call {
     Ordinary,
     Strict,
     Write,
+    TheirsCounted,
+    Counted,
 }
 
 use Call::*;
 
-const CALLS: [Call; 5] = [Floor, Theirs, Ordinary, Strict, Write];
+/// The calls on texts.
+pub const TEXTS: [Call; 5] = [Floor, Theirs, Ordinary, Strict, Write];
 
-/// Nanoseconds a text, for each call round by round.
+/// The calls on sheets.
+pub const SHEETS: [Call; 2] = [TheirsCounted, Counted];
+
+/// Nanoseconds a text or a sheet, for each call round by round.
 #[derive(Default)]
-pub struct Times([Vec<f64>; 5]);
+pub struct Times([Vec<f64>; 7]);
 
 impl Times {
     pub fn of(&self, call: Call) -> &[f64] {
@@ -30,7 +36,7 @@ impl Times {
 }
 
 /// So many rounds; their order of texts is another each time, and the same for every call.
-pub fn measure(groups: &[Group], rounds: usize) -> Vec<Times> {
+pub fn measure(groups: &[Group], calls: &[Call], rounds: usize) -> Vec<Times> {
     let mut dice = Dice::new(3);
     let mut times: Vec<Times> = groups.iter().map(|_| Times::default()).collect();
     for _ in 0..rounds {
@@ -38,8 +44,8 @@ pub fn measure(groups: &[Group], rounds: usize) -> Vec<Times> {
             let order = shuffled(&mut dice, group.texts.len());
             // Not counted: it brings the texts near.
             once(Floor, group, &order);
-            for call in CALLS {
-                times.0[call as usize].push(once(call, group, &order));
+            for call in calls {
+                times.0[*call as usize].push(once(*call, group, &order));
             }
         }
     }
@@ -67,6 +73,10 @@ fn once(call: Call, group: &Group, order: &[usize]) -> f64 {
         Write => pass(order, |place| {
             calls::write(black_box(&records[place]), &mut room)
         }),
+        TheirsCounted => pass(order, |place| {
+            calls::theirs_counted(black_box(&texts[place]))
+        }),
+        Counted => pass(order, |place| calls::counted(black_box(&texts[place]))),
     }
 }
 

@@ -1,4 +1,4 @@
-//! Our readers and our writer, timed beside the original `Type::parse` in one run.
+//! Our readers, our writer and our totals, timed beside the original `Type::parse` in one run.
 
 mod check;
 mod clock;
@@ -13,6 +13,7 @@ mod plot;
 mod refused;
 mod report;
 mod run;
+mod sheets;
 mod stats;
 mod svg;
 mod table;
@@ -72,7 +73,8 @@ use std::env;
 use std::process::ExitCode;
 
 const HELP: &str = "\
-bench: our readers and our writer, timed beside the original Type::parse in one run
+bench: our readers, our writer and our totals of sheets, timed beside the original Type::parse in
+one run
 
   bench [--quick] [--markdown FILE] [--svg FILE]
 

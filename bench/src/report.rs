@@ -4,6 +4,7 @@ use crate::calls;
 use crate::clock::{Call, Times};
 use crate::groups::{is_goal, Group};
 use crate::lengths::{LENGTHS, WAYS};
+use crate::sheets::rows;
 use crate::stats::{median, ratio, Spread};
 use crate::table::Table;
 
@@ -175,6 +176,39 @@ pub fn writing(all: &[Measured]) -> Table {
     }
     let note = "The original prints no types, so that there is nothing to lay beside it.";
     table.notes.push(note.to_string());
+    table
+}
+
+/// `typetext_totals` beside a loop over `Type::parse`.
+pub fn sheets(all: &[Measured]) -> Table {
+    let head = [
+        "rows are",
+        "rows a sheet",
+        "Type::parse, million rows a second",
+        "totals, million rows a second",
+        "times as fast",
+        "5 to 95 %",
+    ];
+    let mut table = Table::new("Sheets of 64 KiB, counted", 1, &head);
+    for one in all {
+        let (rows, faster) = (
+            rows(&one.group),
+            one.faster(Call::Counted, Call::TheirsCounted),
+        );
+        let millions = |call: Call| format!("{:.2}", rows / one.ns(call) * 1000.0);
+        table.row(vec![
+            one.group.key.to_string(),
+            format!("{rows:.0}"),
+            millions(Call::TheirsCounted),
+            millions(Call::Counted),
+            format!("{:.2}", faster.median),
+            range(faster),
+        ]);
+    }
+    let met = met(all.iter(), Call::Counted, Call::TheirsCounted, GOAL);
+    table.notes.push(format!(
+        "Goal: at least {GOAL} times as many rows a second: {met}."
+    ));
     table
 }
 

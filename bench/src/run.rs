@@ -1,13 +1,13 @@
 //! One run: check, time, print, and write what was asked for.
 
-use crate::clock::{self, Call};
+use crate::clock::{self, Call, SHEETS, TEXTS};
 use crate::dice::Dice;
 use crate::groups::{self, Group};
 use crate::lengths::{self, LENGTHS, WAYS};
 use crate::report::{self, Measured};
 use crate::stats::least;
 use crate::table::Table;
-use crate::{calls, check, insert, machine, plot};
+use crate::{calls, check, insert, machine, plot, sheets};
 use std::env::consts::ARCH;
 use std::fs;
 use std::io::{self, ErrorKind, Write};
@@ -38,14 +38,18 @@ pub fn run(wanted: &Wanted) -> Result<(), String> {
     }
     let lines = lengths::all(&mut Dice::new(9));
     all.iter().chain(&lines).try_for_each(check::answers)?;
+    let sheets = sheets::all(&mut Dice::new(11));
+    sheets.iter().try_for_each(check::sheets)?;
     eprintln!("bench: every text has its answer; timing {rounds} rounds");
-    let (all, lines) = (timed(all, rounds), timed(lines, rounds));
+    let (all, lines) = (timed(all, &TEXTS, rounds), timed(lines, &TEXTS, rounds));
+    let sheets = timed(sheets, &SHEETS, rounds);
     let machine = format!("Measured on {}; {rounds} rounds.", machine::line());
     let tables = [
         report::texts(&all),
         report::reading(&all),
         report::strict(&all),
         report::writing(&all),
+        report::sheets(&sheets),
         report::lengths(&lines),
     ];
     say(&format!("{machine}\n"))?;
@@ -62,8 +66,8 @@ pub fn run(wanted: &Wanted) -> Result<(), String> {
     linear(&lines)
 }
 
-fn timed(groups: Vec<Group>, rounds: usize) -> Vec<Measured> {
-    let times = clock::measure(&groups, rounds);
+fn timed(groups: Vec<Group>, calls: &[Call], rounds: usize) -> Vec<Measured> {
+    let times = clock::measure(&groups, calls, rounds);
     let pairs = groups.into_iter().zip(times);
     pairs
         .map(|(group, times)| Measured { group, times })
