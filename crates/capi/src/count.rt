@@ -63,7 +63,7 @@ fn sheet_number(sheet: &[u8]) -> u8
 pub extern "C" fn typetext_totals(sheet: &[u8]) -> TypetextTotals
     ensures { λ r. ⌜ r ≡ total-numbers (totals 65536 8 1024 (now (sheet .entry))) ⌝ }
 {
-    total_numbers(sheet::total(sheet))
+    total_numbers(sheet::totals(sheet))
 }
 
 // The row that begins at a place, and the place of the next. Any bytes and any place get an answer.

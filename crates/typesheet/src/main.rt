@@ -52,7 +52,7 @@ fn main() {
         let n = io::read_full(0, &mut room);
         // It is 0 when a program begins, and a read alone can have set it.
         if os::errno() == 0 {
-            report(sheet::total(&room[..n]));
+            report(sheet::totals(&room[..n]));
         } else {
             unreadable();
         }
