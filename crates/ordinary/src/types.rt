@@ -23,7 +23,7 @@ use scalars::Scalar;
 ghost use Prim.Native.Nat.{suc, _≤_};
 ghost use mathlib.Core.Path.{_≡_};
 ghost use mathlib.Core.Option.{Option, some};
-ghost use lib.ListN.{length};
+ghost use lib.ListN.{drop, length};
 ghost use Rattle.meaning.specs.Found.{plain};
 ghost use Rattle.meaning.specs.Parts.{each};
 ghost use Rattle.meaning.specs.Ordinary.{pointer, unmarked, passes, ordinary};
@@ -89,19 +89,22 @@ fn unprefixed(s: &[u8]) -> &[u8]
     }
 }
 
-// The forms, by `t`, which is `s` without the prefix; at last `s` as a bare scalar.
-fn parse_named(s: &[u8], t: &[u8]) -> Parsed
-    requires { ⌜ length (now t) ≤ 1024 ⌝ }
-    ensures { λ r. ⌜ said r ≡ each (shown 8) (first-of shorthand (now (t .entry)) (bare (now (s .entry)))) ⌝ }
+// The last form, by `t`, which is `s` without the prefix; then `s` as a bare scalar.
+fn parse_last(s: &[u8], t: &[u8]) -> Parsed
+    ensures { λ r. ⌜ said r ≡ each (shown 8) (first-of (drop 5 shorthand) (now (t .entry)) (bare (now (s .entry)))) ⌝ }
 {
-    let e = try_form(t, b"tile<");
-    if e.applies {
-        return parse_tile(strip_prefix_suffix(t, b"tile<", e.len));
+    let q = try_form(t, b"ptr<");
+    if q.applies {
+        return parse_ptr(strip_prefix_suffix(t, b"ptr<", q.len));
     }
-    let v = try_form(t, b"tensor_view<");
-    if v.applies {
-        return parse_tensor_view(strip_prefix_suffix(t, b"tensor_view<", v.len));
-    }
+    parse_bare(s)
+}
+
+// The views, then the last form.
+fn parse_views(s: &[u8], t: &[u8]) -> Parsed
+    requires { ⌜ length (now t) ≤ 1024 ⌝ }
+    ensures { λ r. ⌜ said r ≡ each (shown 8) (first-of (drop 2 shorthand) (now (t .entry)) (bare (now (s .entry)))) ⌝ }
+{
     let p = try_form(t, b"partition_view<");
     if p.applies {
         return parse_partition_view(strip_prefix_suffix(t, b"partition_view<", p.len));
@@ -114,11 +117,23 @@ fn parse_named(s: &[u8], t: &[u8]) -> Parsed
     if d.applies {
         return parse_strided_view(strip_prefix_suffix(t, b"strided_view<", d.len));
     }
-    let q = try_form(t, b"ptr<");
-    if q.applies {
-        return parse_ptr(strip_prefix_suffix(t, b"ptr<", q.len));
+    parse_last(s, t)
+}
+
+// All forms, in this order.
+fn parse_named(s: &[u8], t: &[u8]) -> Parsed
+    requires { ⌜ length (now t) ≤ 1024 ⌝ }
+    ensures { λ r. ⌜ said r ≡ each (shown 8) (first-of shorthand (now (t .entry)) (bare (now (s .entry)))) ⌝ }
+{
+    let e = try_form(t, b"tile<");
+    if e.applies {
+        return parse_tile(strip_prefix_suffix(t, b"tile<", e.len));
     }
-    parse_bare(s)
+    let v = try_form(t, b"tensor_view<");
+    if v.applies {
+        return parse_tensor_view(strip_prefix_suffix(t, b"tensor_view<", v.len));
+    }
+    parse_views(s, t)
 }
 
 // A trimmed text without marks. Both `!cuda_tile.token` and shorthand `token` are accepted.

@@ -1,4 +1,4 @@
--- `parse_named` meets its contract: the first form that applies decides, and where none does, a bare name.
+-- `parse_named` meets its contract: the first form that applies decides, and where none does, what is left.
 use native.Mathlib.Omega.{arith}
 use borrow.Author.Needs.{needs}
 use Rattle.meaning.specs.Ordinary.{forms}
@@ -25,45 +25,6 @@ parse-named-spec =
     (λ c κs. omega (arith, L.inside (c .before .before .before .try-form2 .ensures) _ (c .strip-prefix-suffix2 .ensures)))
     (λ c. let e1 = c .before .before .before .before .before .before in
     L.decides (L.past (L.untried shorthand _ _) (e1 .before .try-form .ensures) (e1 .if1 .left)) _ (c .before .strip-prefix-suffix2 .ensures) (c .parse-tensor-view .ensures))
-    (λ c. search needs)
     (λ c κs. search needs)
-    (λ c. search needs)
-    (λ c κs. L.applied (c .before .before .try-form3 .ensures) (c .before .if3 .taken))
-    (λ c κs. omega (arith, L.inside (c .before .before .before .try-form3 .ensures) _ (c .strip-prefix-suffix3 .ensures)))
-    (λ c. let e2 = c .before .before .before .before .before .before in let e1 = e2 .before .before .before in
-    L.decides (L.past (L.past (L.untried shorthand _ _) (e1 .before .try-form .ensures) (e1 .if1 .left))
-    (e2 .before .try-form2 .ensures) (e2 .if2 .left)) _ (c .before .strip-prefix-suffix3 .ensures) (c .parse-partition-view .ensures))
-    (λ c. search needs)
-    (λ c κs. search needs)
-    (λ c. search needs)
-    (λ c κs. L.applied (c .before .before .try-form4 .ensures) (c .before .if4 .taken))
-    (λ c κs. omega (arith, L.inside (c .before .before .before .try-form4 .ensures) _ (c .strip-prefix-suffix4 .ensures)))
-    (λ c. let e3 = c .before .before .before .before .before .before in let e2 = e3 .before .before .before in let e1 = e2 .before .before .before in
-    L.decides (L.past (L.past (L.past (L.untried shorthand _ _) (e1 .before .try-form .ensures) (e1 .if1 .left))
-    (e2 .before .try-form2 .ensures) (e2 .if2 .left)) (e3 .before .try-form3 .ensures) (e3 .if3 .left)) _ (c .before .strip-prefix-suffix4 .ensures) (c .parse-gather-scatter-view .ensures))
-    (λ c. search needs)
-    (λ c κs. search needs)
-    (λ c. search needs)
-    (λ c κs. L.applied (c .before .before .try-form5 .ensures) (c .before .if5 .taken))
-    (λ c κs. omega (arith, L.inside (c .before .before .before .try-form5 .ensures) _ (c .strip-prefix-suffix5 .ensures)))
-    (λ c. let e4 = c .before .before .before .before .before .before in let e3 = e4 .before .before .before in let e2 = e3 .before .before .before in
-    let e1 = e2 .before .before .before in
-    L.decides (L.past (L.past (L.past (L.past (L.untried shorthand _ _) (e1 .before .try-form .ensures) (e1 .if1 .left))
-    (e2 .before .try-form2 .ensures) (e2 .if2 .left)) (e3 .before .try-form3 .ensures) (e3 .if3 .left))
-    (e4 .before .try-form4 .ensures) (e4 .if4 .left)) _ (c .before .strip-prefix-suffix5 .ensures) (c .parse-strided-view .ensures))
-    (λ c. search needs)
-    (λ c κs. search needs)
-    (λ c. search needs)
-    (λ c κs. L.applied (c .before .before .try-form6 .ensures) (c .before .if6 .taken))
-    (λ c κs. search needs)
-    (λ c. let e5 = c .before .before .before .before .before .before in let e4 = e5 .before .before .before in let e3 = e4 .before .before .before in
-    let e2 = e3 .before .before .before in let e1 = e2 .before .before .before in
-    L.decides (L.past (L.past (L.past (L.past (L.past (L.untried shorthand _ _) (e1 .before .try-form .ensures) (e1 .if1 .left))
-    (e2 .before .try-form2 .ensures) (e2 .if2 .left)) (e3 .before .try-form3 .ensures) (e3 .if3 .left))
-    (e4 .before .try-form4 .ensures) (e4 .if4 .left)) (e5 .before .try-form5 .ensures) (e5 .if5 .left)) _ (c .before .strip-prefix-suffix6 .ensures) (c .parse-ptr .ensures))
-    (λ c κs. search needs)
-    (λ c. let e6 = c .before in let e5 = e6 .before .before .before in let e4 = e5 .before .before .before in
-    let e3 = e4 .before .before .before in let e2 = e3 .before .before .before in let e1 = e2 .before .before .before in
-    L.at-last (L.past (L.past (L.past (L.past (L.past (L.past (L.untried shorthand _ _) (e1 .before .try-form .ensures) (e1 .if1 .left))
-    (e2 .before .try-form2 .ensures) (e2 .if2 .left)) (e3 .before .try-form3 .ensures) (e3 .if3 .left))
-    (e4 .before .try-form4 .ensures) (e4 .if4 .left)) (e5 .before .try-form5 .ensures) (e5 .if5 .left)) (e6 .before .try-form6 .ensures) (e6 .if6 .left)) (c .parse-bare .ensures)))
+    (λ c. let e2 = c .before in let e1 = e2 .before .before .before in
+    L.at-last (L.past (L.past (L.untried shorthand _ _) (e1 .before .try-form .ensures) (e1 .if1 .left)) (e2 .before .try-form2 .ensures) (e2 .if2 .left)) (c .parse-views .ensures)))
