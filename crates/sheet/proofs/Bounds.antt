@@ -2,32 +2,30 @@
 use Prim.Native.Nat.{ℕ, _+_, _*_, _≤_}
 use native.Mathlib.Omega.{arith}
 use mathlib.Core.Bool.{Bool, true, false, _&&_, false≢true}
-use mathlib.Core.Option.{Option, none, some}
 use mathlib.Core.Path.{_≡_, refl}
 use borrow.Author.Tests.{leb-true}
-use lib.Dec.{leb}
 use lib.ListN.{length}
-use Rattle.lexis.specs.Text.{Text, if_then_else_, Cut, nowhere, at}
+use Rattle.lexis.specs.Text.{Text, Cut, nowhere, at}
 use Rattle.meaning.specs.Found.{Clause, values, Found, fits, within, unreadable, counts, made, plain, token, with-attribute}
 use Rattle.meaning.specs.Tile as T
 use Rattle.meaning.specs.Views as W
-use Rattle.meaning.specs.Ordinary.{high-from, parse, refused, accepted, judged, read-ascii, ordinary}
+use Rattle.meaning.specs.Ordinary.{refused, accepted, ordinary}
 use Rattle.meaning.specs.declared.Note.{Note}
 use Rattle.meaning.specs.declared.Refusal.{Refusal}
 use Rattle.meaning.specs.declared.Refusal.the-variants.{TooLong, HighByte, NoType, TooMany}
+use Rattle.meaning.proofs.Everywhere.{Made, ordinary-all}
 use Rattle.lists.proofs.Bounds.{fell-within, filled-within}
-use Rattle.sheet.proofs.Everywhere.{Made, All, parse-all}
 
 -- ── one sparse dimension ──
 
-abbrev Thin : Found → Type 0
+abbrev pub Thin : Found → Type 0
 Thin t = length (values (t .sparse)) ≤ 1
 
 thin-sparse : (c : Cut) → length (values (W.sparse-by c)) ≤ 1
 thin-sparse nowhere = omega arith
 thin-sparse (at u t) = omega arith
 
-thin : Made Thin
+pub thin : Made Thin
 unfolding token plain made with-attribute T.tile-of T.tensor-found W.view-of W.strided-of
 thin = record {
   token-is = omega arith;
@@ -90,20 +88,13 @@ module _ (cap : ℕ) where
   unfolding refused
   refused-few r place = record { a = omega arith; b = omega arith; c = omega arith; d = omega arith }
 
-  judged-few : (o : Option Found) → All Thin thin o → Few most (judged cap o .note)
-  unfolding accepted
-  judged-few none h = refused-few NoType 0
-  judged-few (some t) h = by (within cap t) (counts-few t h)
-    where
-      by : (d : Bool) → (d ≡ true → Few most (counts t)) → Few most ((if d then accepted cap t else refused cap TooMany 0) .note)
-      by true k = k refl
-      by false k = refused-few TooMany 0
-
   pub few : (size : ℕ) (s : Text) → Few most (ordinary cap size s .note)
-  unfolding ordinary
-  few size s = by (leb (length s) size) (high-from 0 s)
-    where
-      by : (d : Bool) (o : Option ℕ) → Few most ((if d then read-ascii cap s o else refused cap TooLong 0) .note)
-      by true none = judged-few (parse s) (parse-all Thin thin s)
-      by true (some place) = refused-few HighByte place
-      by false o = refused-few TooLong 0
+  unfolding accepted
+  few size s =
+      ordinary-all Thin thin cap (λ r. Few most (r .note)) (record {
+        too-long = refused-few TooLong 0;
+        high = refused-few HighByte;
+        no-type = refused-few NoType 0;
+        too-many = refused-few TooMany 0;
+        accepts = counts-few;
+      }) size s

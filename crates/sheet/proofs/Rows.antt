@@ -4,20 +4,19 @@ use Prim.Native.Nat.{ℕ, zero, suc, _+_, _<_}
 use native.Mathlib.Omega.{arith}
 use mathlib.Core.Bool.{Bool, true, false}
 use mathlib.Core.List.{List, [], _∷_, _++_}
-use mathlib.Core.Option.{Option, none, some}
 use mathlib.Core.Path.{_≡_, refl, sym, ap, _∙_}
 use borrow.Author.Tests.{eqb-true, lt-leb}
 use lib.Dec.{eqb, leb}
 use lib.ListN.{length, drop, drop-of-length-le}
 use Rattle.lexis.specs.Text.{Text, if_then_else_, onto-first, until}
-use Rattle.meaning.specs.Found.{Found, within}
-use Rattle.meaning.specs.Ordinary.{parse, high-from, refused, accepted, judged, read-ascii, ordinary}
+use Rattle.meaning.specs.Ordinary.{refused, accepted, ordinary}
+use Rattle.meaning.proofs.Everywhere.{ordinary-all}
 use Rattle.meaning.specs.declared.Reading.{Reading}
-use Rattle.meaning.specs.declared.Refusal.the-variants.{TooLong, TooMany}
 use Rattle.sheet.specs.declared.Cut.{Cut}
-use Rattle.sheet.specs.declared.Counted.the-variants.{TooLong as Over}
+use Rattle.sheet.specs.declared.Counted.the-variants.{TooLong}
 use Rattle.sheet.specs.Parts.{none as nothing}
 use Rattle.sheet.specs.Sheet.{rows, yielded, no-row, cut, bytes-of, sum, counted, totals}
+use Rattle.sheet.proofs.Bounds.{Thin, thin}
 use Rattle.sheet.proofs.Cutting.{left, found, ended, stays}
 
 -- ── a walk ──
@@ -113,23 +112,9 @@ abbrev Once : Reading → Type 0
 Once r = counted 0 r + counted 1 r + counted 2 r + counted 3 r + counted 4 r ≡ 1
 
 module _ (cap size : ℕ) where
-  judged-once : (o : Option Found) → Once (judged cap o)
-  unfolding refused accepted
-  judged-once none = refl
-  judged-once (some t) = by (within cap t)
-    where
-      by : (d : Bool) → Once (if d then accepted cap t else refused cap TooMany 0)
-      by true = refl
-      by false = refl
-
   once : (s : Text) → Once (ordinary cap size s)
-  unfolding ordinary refused
-  once s = by (leb (length s) size) (high-from 0 s)
-    where
-      by : (d : Bool) (o : Option ℕ) → Once (if d then read-ascii cap s o else refused cap TooLong 0)
-      by true none = judged-once (parse s)
-      by true (some place) = refl
-      by false o = refl
+  unfolding refused accepted
+  once s = ordinary-all Thin thin cap Once (record { too-long = refl; high = λ p. refl; no-type = refl; too-many = refl; accepts = λ t h e. refl }) size s
 
   abbrev of : ℕ → List Text → ℕ
   of n rs = sum (λ r. counted n (ordinary cap size r)) rs
@@ -152,6 +137,6 @@ module _ (cap size : ℕ) where
       by (r ∷ rs) = let h = by rs in omega arith
 
   -- of a sheet over the limit every number is 0
-  pub over-is-nothing : (limit : ℕ) (s : Text) → limit < length s → totals limit cap size s ≡ nothing Over
+  pub over-is-nothing : (limit : ℕ) (s : Text) → limit < length s → totals limit cap size s ≡ nothing TooLong
   unfolding totals
   over-is-nothing limit s h = rw (lt-leb (length s) limit h)
