@@ -22,7 +22,7 @@ use Rattle.meaning.specs.Written as W
 use Rattle.grammar.specs.Tests.{is-true}
 use Rattle.writer.proofs.Answers.{Arrays}
 use Rattle.writer.proofs.Short.{Ranged}
-use Rattle.writer.proofs.Whens.{When}
+use Rattle.meaning.proofs.Whens.{When}
 use Rattle.writer.proofs.Back.{answered}
 use Rattle.writer.proofs.Ascii.{read-back}
 use Rattle.accord.proofs.Accord.{accord, accord-many}

@@ -22,7 +22,7 @@ use Rattle.meaning.specs.Tile.{Tensor}
 use Rattle.meaning.specs.Views as W
 use Rattle.meaning.specs.Views.{View, Listed}
 use Rattle.meaning.specs.Ordinary as O
-use Rattle.meaning.proofs.Everywhere.{Made, ordinary-all}
+use Rattle.meaning.proofs.Everywhere.{Made, read, ordinary-all}
 
 -- ── a list in an array ──
 
@@ -137,7 +137,7 @@ accepted-normal cap t h e = modest-normal cap t h ∙ e
 
 pub ordinary-normal : (cap size : ℕ) (s : Text) → normal cap (O.ordinary cap size s .value) ≡ true
 ordinary-normal cap size s =
-    ordinary-all Fair fair cap (λ r. normal cap (r .value) ≡ true) (record {
+    ordinary-all Fair (read Fair fair) cap (λ r. normal cap (r .value) ≡ true) (record {
       too-long = refused-normal cap TooLong 0;
       high = refused-normal cap HighByte;
       no-type = refused-normal cap NoType 0;

@@ -13,7 +13,7 @@ use Rattle.meaning.specs.Ordinary.{refused, accepted, ordinary}
 use Rattle.meaning.specs.declared.Note.{Note}
 use Rattle.meaning.specs.declared.Refusal.{Refusal}
 use Rattle.meaning.specs.declared.Refusal.the-variants.{TooLong, HighByte, NoType, TooMany}
-use Rattle.meaning.proofs.Everywhere.{Made, ordinary-all}
+use Rattle.meaning.proofs.Everywhere.{Made, read, ordinary-all}
 use Rattle.lists.proofs.Bounds.{fell-within, filled-within}
 
 -- ── one sparse dimension ──
@@ -91,7 +91,7 @@ module _ (cap : ℕ) where
   pub few : (size : ℕ) (s : Text) → Few most (ordinary cap size s .note)
   unfolding accepted
   few size s =
-      ordinary-all Thin thin cap (λ r. Few most (r .note)) (record {
+      ordinary-all Thin (read Thin thin) cap (λ r. Few most (r .note)) (record {
         too-long = refused-few TooLong 0;
         high = refused-few HighByte;
         no-type = refused-few NoType 0;

@@ -10,7 +10,7 @@ use lib.Dec.{eqb, leb}
 use lib.ListN.{length, drop, drop-of-length-le}
 use Rattle.lexis.specs.Text.{Text, if_then_else_, onto-first, until}
 use Rattle.meaning.specs.Ordinary.{refused, accepted, ordinary}
-use Rattle.meaning.proofs.Everywhere.{ordinary-all}
+use Rattle.meaning.proofs.Everywhere.{read, ordinary-all}
 use Rattle.meaning.specs.declared.Reading.{Reading}
 use Rattle.sheet.specs.declared.Cut.{Cut}
 use Rattle.sheet.specs.declared.Counted.the-variants.{TooLong}
@@ -114,7 +114,7 @@ Once r = counted 0 r + counted 1 r + counted 2 r + counted 3 r + counted 4 r ≡
 module _ (cap size : ℕ) where
   once : (s : Text) → Once (ordinary cap size s)
   unfolding refused accepted
-  once s = ordinary-all Thin thin cap Once (record { too-long = refl; high = λ p. refl; no-type = refl; too-many = refl; accepts = λ t h e. refl }) size s
+  once s = ordinary-all Thin (read Thin thin) cap Once (record { too-long = refl; high = λ p. refl; no-type = refl; too-many = refl; accepts = λ t h e. refl }) size s
 
   abbrev of : ℕ → List Text → ℕ
   of n rs = sum (λ r. counted n (ordinary cap size r)) rs

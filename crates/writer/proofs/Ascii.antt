@@ -17,7 +17,7 @@ use Rattle.meaning.specs.Written.{written}
 use Rattle.grammar.proofs.Printed.{strict-low}
 use Rattle.writer.proofs.Short.{Ranged}
 use Rattle.writer.proofs.Answers.{Arrays}
-use Rattle.writer.proofs.Whens.{When}
+use Rattle.meaning.proofs.Whens.{When}
 use Rattle.writer.proofs.Longest.{At-most, longest}
 use Rattle.writer.proofs.Back.{own, answered, strict, back}
 

@@ -9,7 +9,6 @@ pub mod Same
 pub mod Opened
 pub mod Answers
 pub mod Ranges
-pub mod Whens
 pub mod Sound
 pub mod Longest
 pub mod Unique

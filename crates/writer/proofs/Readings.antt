@@ -9,7 +9,7 @@ use mathlib.Core.List as L
 use mathlib.Core.List.{List, [], _∷_}
 use mathlib.Core.Option.{Option, none, some}
 use mathlib.Core.Path.{_≡_, refl, ap, _∙_}
-use lib.Dec.{T, eqb, leb, eqb·suc-zero}
+use lib.Dec.{T, eqb, eqb·suc-zero}
 use lib.IntN.{ℤ, pos}
 use lib.ListN.{length, replicate}
 use Rattle.lexis.specs.Text.{Text, bytes, if_then_else_, same, trim, split, onto-first, less-leading, less-trailing, Cut, nowhere, at, cut}
@@ -20,7 +20,7 @@ use Rattle.meaning.specs.declared.Kind.the-variants as K
 use Rattle.meaning.specs.declared.Record.{Record}
 use Rattle.meaning.specs.declared.Refusal.{Refusal}
 use Rattle.meaning.specs.declared.Refusal.the-variants.{TooLong, HighByte, NoType, TooMany}
-use Rattle.meaning.specs.Parts.{each, last, front, bracketed, less-repeats, remove, between, close}
+use Rattle.meaning.specs.Parts.{each, last, front, less-repeats, between, close}
 use Rattle.meaning.specs.Found.{Clause, values, value, padded, Found, flat, within, made, unused, plain, token, with-attribute}
 use Rattle.meaning.specs.Tile as M
 use Rattle.meaning.specs.Tile.{Tensor}
@@ -32,7 +32,8 @@ use Rattle.writer.specs.Flat.{some-in, strides-fine, shown-as, shown, te
 use Rattle.writer.proofs.Same as Same
 use Rattle.writer.proofs.Same.{Whole}
 use Rattle.writer.proofs.Sound.{and}
-use Rattle.writer.proofs.Whens.{When, when-each}
+use Rattle.meaning.proofs.Whens.{When, when-each, all-each}
+use Rattle.meaning.proofs.Everywhere.{Read, ordinary-all}
 
 -- ── what a text needs ──
 
@@ -143,10 +144,6 @@ tensor-of-rich dims (some s) e =
     or-left (some-in n) (eqb (length (values (M.dimensions dims))) 0)
     (counts n (map-filled value (L.map M.dimension ps) (map-filled M.dimension ps (parts-filled s))))
 
-all-each : {A B : Type 0} (Q : B → Type 0) (f : A → B) → ((a : A) → Q (f a)) → (o : Option A) → When Q (each f o)
-all-each Q f h none = tt
-all-each Q f h (some a) = h a
-
 tensor-parts-rich : (s : Text) (o : Option Text) → When Tensor-rich (M.tensor-parts s o)
 unfolding M.tensor-parts
 tensor-parts-rich s o =
@@ -254,7 +251,7 @@ attribute-rich t h cap = same-lists (t .kind) (flat cap t) (flat cap (with-attri
     same-lists K.Strided r q a b c d e h = rw (a, b, c, d, e) at h
     same-lists K.Token r q a b c d e h = tt
 
--- ── the whole reading ──
+-- ── what each form finds ──
 
 tile-reads : (s : Text) → When Rich (M.tile s)
 unfolding M.tile
@@ -297,48 +294,18 @@ pointer-reads : (s : Text) → When Rich (O.pointer s)
 unfolding O.pointer
 pointer-reads s = all-each Rich (plain K.Pointer) pointer-rich (scalar-name s)
 
-infixr 20 _also_
-_also_ : {A B : Type 0} → A → B → A × B
-a also b = (a, b)
-
-abbrev Rich-forms : List O.Form → Type 0
-Rich-forms [] = Unit
-Rich-forms (f ∷ fs) = ((t : Text) → When Rich (f .content t)) × Rich-forms fs
-
-forms-rich : Rich-forms O.forms
-unfolding O.forms
-forms-rich =
-    tile-reads also tensor-reads also partition-reads also gather-reads also strided-reads also pointer-reads also
-    tile-reads also tensor-reads also partition-reads also gather-reads also strided-reads also pointer-reads also tt
-
-by-forms-rich : (fs : List O.Form) → Rich-forms fs → (s : Text) → When Rich (O.by-forms fs s)
-by-forms-rich [] h s = all-each Rich (plain K.Scalar) plain-rich (scalar-name s)
-by-forms-rich (f ∷ fs) h s = by (bracketed (bytes (f .opens)) s) (by-forms-rich fs (h .1) s)
-  where
-    by : (o : Option Text) → When Rich (O.by-forms fs s) → When Rich (elim o [ some t ↦ f .content t | none ↦ O.by-forms fs s ])
-    by none r = r
-    by (some t) r = h .0 t
-
-unmarked-rich : (s : Text) → When Rich (O.unmarked s)
-unfolding O.unmarked
-unmarked-rich s = by (same s (bytes "!cuda_tile.token") || same s (bytes "token"))
-  where
-    by : (b : Bool) → When Rich (if b then some token else O.by-forms O.forms s)
-    by true = token-rich
-    by false = by-forms-rich O.forms forms-rich s
-
-passes-rich : (n : ℕ) (s : Text) → When Rich (O.passes n s)
-passes-rich zero s = tt
-passes-rich (suc n) s = by (cut O.mark (trim s)) (O.passes n (remove O.mark (trim s))) (passes-rich n (remove O.mark (trim s)))
-  where
-    by : (c : Cut) (o : Option Found) → When Rich o → When Rich (elim c [ nowhere ↦ O.unmarked (trim s) | at u t ↦ each with-attribute o ])
-    by nowhere o h = unmarked-rich (trim s)
-    by (at u t) none h = tt
-    by (at u t) (some f) h = attribute-rich f h
-
-parse-rich : (s : Text) → When Rich (O.parse s)
-unfolding O.parse
-parse-rich s = passes-rich (suc (length s)) s
+rich : Read Rich
+rich = record {
+  token-is = token-rich;
+  scalar = plain-rich;
+  pointer = pointer-reads;
+  tile = tile-reads;
+  tensor = tensor-reads;
+  partition = partition-reads;
+  gather = gather-reads;
+  strided = strided-reads;
+  attribute = attribute-rich;
+}
 
 -- ── its record ──
 
@@ -374,20 +341,16 @@ module _ (cap : ℕ) (one : 1 ≤ cap) where
   unfolding O.refused
   refused-readable why place = rich-readable cap token one token-rich
 
-  judged-readable : (o : Option Found) → When Rich o → Readable (O.judged cap o .value)
+  accepted-readable : (t : Found) → Rich t → within cap t ≡ true → Readable (O.accepted cap t .value)
   unfolding O.accepted
-  judged-readable none h = refused-readable NoType 0
-  judged-readable (some t) h = by (within cap t)
-    where
-      by : (b : Bool) → Readable ((if b then O.accepted cap t else O.refused cap TooMany 0) .value)
-      by true = rich-readable cap t one h
-      by false = refused-readable TooMany 0
+  accepted-readable t h e = rich-readable cap t one h
 
   pub ordinary-readable : (size : ℕ) (s : Text) → Readable (O.ordinary cap size s .value)
-  unfolding O.ordinary
-  ordinary-readable size s = by (leb (length s) size) (O.high-from 0 s)
-    where
-      by : (b : Bool) (o : Option ℕ) → Readable ((if b then O.read-ascii cap s o else O.refused cap TooLong 0) .value)
-      by false o = refused-readable TooLong 0
-      by true none = judged-readable (O.parse s) (parse-rich s)
-      by true (some place) = refused-readable HighByte place
+  ordinary-readable size s =
+      ordinary-all Rich rich cap (λ r. Readable (r .value)) (record {
+        too-long = refused-readable TooLong 0;
+        high = refused-readable HighByte;
+        no-type = refused-readable NoType 0;
+        too-many = refused-readable TooMany 0;
+        accepts = accepted-readable;
+      }) size s

@@ -23,7 +23,7 @@ use Rattle.meaning.specs.Meant.{eachOf, tensorOk, viewOk, ok, mean, Strict}
 use Rattle.meaning.specs.Written as W
 use Rattle.meaning.specs.Written.{dimension-of, listed, first, form-as, form, tensor-of, view-of, tensor-in, view-in, shape-in, strides-in, tile-in, map-in, traversal-in}
 use Rattle.writer.proofs.Short.{Below, Ranged}
-use Rattle.writer.proofs.Whens.{When, when-each, when-bind, when-unless}
+use Rattle.meaning.proofs.Whens.{When, when-each, when-bind, when-unless}
 
 -- ── numbers and lists ──
 
