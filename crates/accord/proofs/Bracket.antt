@@ -66,6 +66,14 @@ apart-from C x b n h = go (eqb x b) (λ e. no-both (C x) n (subst (λ (z : ℕ).
     go true f = absurd (f tt)
     go false f = refl
 
+-- a class that lacks x
+pub lacks : (C : ℕ → Bool) (x : ℕ) → T (not (C x)) → (c : ℕ) → T (C c) → T (not (eqb x c))
+lacks C x n c h = go (eqb x c) (apart-from C x c n h)
+  where
+    go : (k : Bool) → k ≡ false → T (not k)
+    go true e = subst (λ (z : Bool). T (not z)) (sym e) tt
+    go false e = tt
+
 run-ok : (C : ℕ → Bool) → T (not (C 60)) → T (not (C 62)) → (t : List ℕ) → T (every C t) → (d : ℕ) (s : List ℕ) → close d (t ++ s) ≡ pushes t (close d s)
 run-ok C n m [] h d s = refl
 run-ok C n m (b ∷ t) h d s =

@@ -1,4 +1,4 @@
--- What the ordinary reading's searches meet in strict forms: texts ahead of a pattern, and the padding.
+-- What the ordinary reading's searches meet in skeletons: texts ahead of a pattern, and the padding.
 use Prim.Native.Nat.{ℕ, zero, suc, _<_}
 use mathlib.Core.Bool.{Bool, true, false, _&&_}
 use mathlib.Core.List.{List, [], _++_, append-assoc}
@@ -12,7 +12,7 @@ use Rattle.meaning.specs.Strict as Form
 use Rattle.meaning.specs.Strict.{_⊕_, comma, pads}
 use Rattle.meaning.specs.Meant.{padsOf}
 use Rattle.accord.proofs.Shape.{Shape, In, lit, run, seq, the, both, free, absent, clears, first}
-use Rattle.accord.proofs.Forms.{num, _▸_, _&_, comma-shape, comma-in, intro-shape, whole-in, whole, Parts, middle, end, view-shape}
+use Rattle.accord.proofs.Forms.{with-both, _▸_, _&_, comma-shape, comma-in, intro-shape, travel-shape, ending-shape, whole-in, whole, Parts, view-shape}
 
 -- a text w that begins with a text of a shape, and goes on with s
 pub record Ahead (sh : Shape) (w s : List ℕ) : Type 0 where
@@ -40,11 +40,9 @@ hasn't P i h = ap found (absent P i h)
 pub has-at : (P : List ℕ) {sh : Shape} {w : List ℕ} (s : List ℕ) → Ahead sh w (P ++ s) → T (clears P P sh) → occurs P w ≡ true
 has-at P s a h = ap found (first-at P s a h)
 
--- what stands before the padding's name
-before : (w : Parts middle end) (s : List ℕ) →
-    Ahead (lit (bytes "tile=(") ▸ run num ▸ lit (bytes ")") ▸ comma-shape ▸ middle ▸ lit (bytes "padding_value="))
-    (bytes "tile=(" ⊕ w .te ⊕ bytes ")" ⊕ w .tc ⊕ w .tm ⊕ bytes "padding_value=" ⊕ s) s
-before w s = the ⊳ w .ie ⊳ the ⊳ w .ic ⊳ w .im ⊳ last the
+-- what stands before the padding
+abbrev front-shape : Shape
+front-shape = lit (bytes "tile=(") ▸ run with-both ▸ lit (bytes ")") ▸ comma-shape ▸ travel-shape
 
 abbrev fixed : List ℕ → Bool → List ℕ
 fixed l s = bytes "padding_value=" ⊕ l ⊕ comma s
@@ -56,19 +54,22 @@ and-false : (a : Bool) → a && false ≡ false
 and-false true = refl
 and-false false = refl
 
-module _ (w : Parts middle end) {ti : List ℕ} (ii : In intro-shape ti) where
+module _ (w : Parts travel-shape ending-shape) {ti : List ℕ} (ii : In intro-shape ti) where
   -- what follows the padding
   abbrev onward : List ℕ
-  onward = ti ⊕ bytes "tensor_view<" ⊕ w .tb ⊕ bytes ">" ⊕ w .tc′ ⊕ w .td
+  onward = ti ⊕ bytes "tensor_view<" ⊕ w .body .text ⊕ bytes ">" ⊕ w .end .text
 
-  pub value-there : (s : List ℕ) → occurs (bytes "padding_value") (bytes "tile=(" ⊕ w .te ⊕ bytes ")" ⊕ w .tc ⊕ w .tm ⊕ bytes "padding_value" ⊕ s) ≡ true
-  value-there s = has-at (bytes "padding_value") s (say (bytes "tile=(") ⊳ w .ie ⊳ say (bytes ")") ⊳ w .ic ⊳ last (w .im)) tt
+  front : (s : List ℕ) → Ahead front-shape (bytes "tile=(" ⊕ w .tile .text ⊕ bytes ")" ⊕ w .comma .text ⊕ w .middle .text ⊕ s) s
+  front s = the ⊳ w .tile .is ⊳ the ⊳ w .comma .is ⊳ last (w .middle .is)
 
-  word-there : (P : List ℕ) → T (clears P P (lit (bytes "tile=(") ▸ run num ▸ lit (bytes ")") ▸ comma-shape ▸ middle ▸ lit (bytes "padding_value="))) → (s : List ℕ) →
-      occurs P (bytes "tile=(" ⊕ w .te ⊕ bytes ")" ⊕ w .tc ⊕ w .tm ⊕ bytes "padding_value=" ⊕ (P ⊕ s)) ≡ true
-  word-there P h s = has-at P s (before w (P ⊕ s)) h
+  value-there : (s : List ℕ) → occurs (bytes "padding_value") (bytes "tile=(" ⊕ w .tile .text ⊕ bytes ")" ⊕ w .comma .text ⊕ w .middle .text ⊕ bytes "padding_value" ⊕ s) ≡ true
+  value-there s = has-at (bytes "padding_value") s (front (bytes "padding_value" ⊕ s)) tt
 
-  hasnt : (P : List ℕ) (l : List ℕ) (s : Bool) → T (free P (view-shape middle (lit (bytes "padding_value=") ▸ lit l ▸ comma-shape) intro-shape end)) →
+  word-there : (P : List ℕ) → T (clears P P (lit (bytes "tile=(") ▸ run with-both ▸ lit (bytes ")") ▸ comma-shape ▸ travel-shape ▸ lit (bytes "padding_value="))) → (s : List ℕ) →
+      occurs P (bytes "tile=(" ⊕ w .tile .text ⊕ bytes ")" ⊕ w .comma .text ⊕ w .middle .text ⊕ bytes "padding_value=" ⊕ (P ⊕ s)) ≡ true
+  word-there P h s = has-at P s (say (bytes "tile=(") ⊳ w .tile .is ⊳ say (bytes ")") ⊳ w .comma .is ⊳ w .middle .is ⊳ last (say (bytes "padding_value="))) h
+
+  hasnt : (P : List ℕ) (l : List ℕ) (s : Bool) → T (free P (view-shape travel-shape (lit (bytes "padding_value=") ▸ lit l ▸ comma-shape) intro-shape ending-shape)) →
       occurs P (whole w (fixed l s) ti) ≡ false
   hasnt P l s h = hasn't P (whole-in w (fixed-in l s) ii) h
 

@@ -1,82 +1,51 @@
--- The shapes of a strict form's parts: each part's text lies in its shape.
-use Prim.Native.Nat.{ℕ, zero, suc, _+_, _/_, _%_, _<_}
-use native.Mathlib.Omega.{arith}
-use native.Mathlib.Nat.{mod-lt, zero-lt-suc}
-use mathlib.Core.Bool.{Bool, true, false, _&&_, _||_}
+-- Skeletons: texts of the strict forms' make in which every list is any text over a wide class of bytes, a name may have white
+-- space around it, and clauses may be absent. Here their parts: each part's text lies in its shape.
+use Prim.Native.Nat.{ℕ, zero, suc}
+use mathlib.Core.Bool.{Bool, true, false, not}
 use mathlib.Core.List.{List, [], _∷_, _++_}
-use lib.Dec.{T, eqb, leb, ltb, le→leb, ltb→lt}
-use lib.IntN.{ℤ, pos, negsuc}
-use Rattle.lexis.specs.Text.{bytes}
-use Rattle.numerals.specs.Numeral.{digit}
-use Rattle.grammar.specs.Tests.{every, and-in}
-use Rattle.meaning.specs.Decimal.{digits, decimal, Dim, dynamic, known, dim}
+use lib.Dec.{T, eqb}
+use Rattle.lexis.specs.Text.{bytes, white}
+use Rattle.grammar.specs.Tests.{every, and-left, and-right, and-in}
 use Rattle.meaning.specs.Strict as Form
-use Rattle.meaning.specs.Strict.{may, nth, words, pads, Next, Commas, comma, rest, commas, dims, xrest, Entries, byX, byComma, entries, Tensor}
+use Rattle.meaning.specs.Strict.{_⊕_, may, nth, words, pads, comma}
 use Rattle.accord.proofs.Shape.{Shape, In, lit, run, alt, seq, the, all, left, right, both}
+use Rattle.accord.proofs.Bracket.{lacks}
 
 -- ── classes ──
--- digits, `-`, `?`, `,`, ` `, `x`
-abbrev pub num : ℕ → Bool
-num c = digit c || (eqb c 45 || (eqb c 63 || (eqb c 44 || (eqb c 32 || eqb c 120))))
+-- none of the bytes xs
+abbrev pub sans : List ℕ → ℕ → Bool
+sans xs c = every (λ x. not (eqb x c)) xs
 
-or-left : (a b : Bool) → T a → T (a || b)
-or-left true b h = tt
-or-left false b h = absurd h
+-- white space, digits, signs, `?` and most letters
+abbrev pub loose : ℕ → Bool
+loose c = sans (bytes "x,()[]<>#_=!nz") c
 
-digit-num : (d : ℕ) → d < 10 → T (num (48 + d))
-digit-num d h = or-left (digit (48 + d)) _ (and-in (leb 48 (48 + d)) (leb (48 + d) 57) (le→leb 48 (48 + d) (omega arith)) (le→leb (48 + d) 57 (omega arith)))
+abbrev pub with-x : ℕ → Bool
+with-x c = sans (bytes ",()[]<>#_=!nz") c
 
-digits-num : (f n : ℕ) (ds : List ℕ) → T (every num ds) → T (every num (digits f n ds))
-digits-num zero n ds h = and-in (num (48 + n % 10)) (every num ds) (digit-num (n % 10) (mod-lt n (zero-lt-suc 9))) h
-digits-num (suc f) n ds h = go (ltb n 10) (ltb→lt n 10) (digits-num f (n / 10) ((48 + n % 10) ∷ ds)
-    (and-in (num (48 + n % 10)) (every num ds) (digit-num (n % 10) (mod-lt n (zero-lt-suc 9))) h))
-  where
-    go : (k : Bool) → (T k → n < 10) → T (every num (digits f (n / 10) ((48 + n % 10) ∷ ds))) →
-        T (every num (elim k [ true ↦ (48 + n) ∷ ds | false ↦ digits f (n / 10) ((48 + n % 10) ∷ ds) ]))
-    go true q r = and-in (num (48 + n)) (every num ds) (digit-num n (q tt)) h
-    go false q r = r
+abbrev pub with-comma : ℕ → Bool
+with-comma c = sans (bytes "x()[]<>#_=!nz") c
 
-pub decimal-num : (z : ℤ) → T (every num (decimal z))
-decimal-num (pos n) = digits-num n n [] tt
-decimal-num (negsuc n) = digits-num (suc n) (suc n) [] tt
+abbrev pub with-both : ℕ → Bool
+with-both c = sans (bytes "()[]<>#_=!nz") c
 
-and-both : (a b c : Bool) → (T b → T c) → T (a && b) → T (a && c)
-and-both true b c f h = f h
-and-both false b c f h = h
+-- a class that lacks each of xs
+pub sans-all : (C : ℕ → Bool) (xs : List ℕ) → T (every (λ x. not (C x)) xs) → (c : ℕ) → T (C c) → T (sans xs c)
+sans-all C [] n c h = tt
+sans-all C (x ∷ xs) n c h =
+    and-in (not (eqb x c)) (sans xs c) (lacks C x (and-left (not (C x)) (every (λ x. not (C x)) xs) n) c h)
+    (sans-all C xs (and-right (not (C x)) (every (λ x. not (C x)) xs) n) c h)
 
-pub every-++ : (C : ℕ → Bool) (a b : List ℕ) → T (every C a) → T (every C b) → T (every C (a ++ b))
-every-++ C [] b h k = k
-every-++ C (c ∷ a) b h k = and-both (C c) (every C a) (every C (a ++ b)) (λ h. every-++ C a b h k) h
+-- a text of a shape
+pub record Of (sh : Shape) : Type 0 where
+  pub text : List ℕ
+  pub is : In sh text
 
-dim-num : (d : Dim) → T (every num (dim d))
-dim-num dynamic = tt
-dim-num (known z) = decimal-num z
+abbrev pub over : {C : ℕ → Bool} (t : List ℕ) → T (every C t) → Of (run C)
+over t h = record { text = t; is = all h }
 
-comma-num : (s : Bool) → T (every num (comma s))
-comma-num true = tt
-comma-num false = tt
-
-module _ {A : Type 0} (f : A → List ℕ) (h : (a : A) → T (every num (f a))) where
-  rest-num : (ns : List (Next A)) → T (every num (rest f ns))
-  rest-num [] = tt
-  rest-num (n ∷ ns) =
-      every-++ num (comma (n .space)) (f (n .entry) ++ rest f ns) (comma-num (n .space))
-      (every-++ num (f (n .entry)) (rest f ns) (h (n .entry)) (rest-num ns))
-
-  pub commas-num : (c : Commas A) → T (every num (commas f c))
-  commas-num c = every-++ num (f (c .head)) (rest f (c .tail)) (h (c .head)) (rest-num (c .tail))
-
-pub dims-num : (ds : List Dim) → T (every num (dims ds))
-dims-num [] = tt
-dims-num (d ∷ ds) = every-++ num (dim d) (120 ∷ dims ds) (dim-num d) (dims-num ds)
-
-xrest-num : (zs : List ℤ) → T (every num (xrest zs))
-xrest-num [] = tt
-xrest-num (z ∷ zs) = every-++ num (decimal z) (xrest zs) (decimal-num z) (xrest-num zs)
-
-pub entries-num : (e : Entries) → T (every num (entries e))
-entries-num (byX z zs) = every-++ num (decimal z) (xrest zs) (decimal-num z) (xrest-num zs)
-entries-num (byComma c) = commas-num decimal decimal-num c
+pub runs : {C : ℕ → Bool} {t : List ℕ} → In (run C) t → T (every C t)
+runs (all h) = h
 
 -- ── shapes of the parts ──
 abbrev pub oneOf : List (List ℕ) → Shape
@@ -103,45 +72,53 @@ infixr 60 _&_
 abbrev pub _&_ : {a b : Shape} {u v : List ℕ} → In a u → In b v → In (seq a b) (u ++ v)
 i & j = both i j
 
-pub nums-in : (t : List ℕ) → T (every num t) → In (run num) t
-nums-in t h = all h
-
-pub dims-in : (ds : List Dim) → In (run num) (dims ds)
-dims-in ds = all (dims-num ds)
-
-pub strs-in : (c : Commas Dim) → In (run num) (commas dim c)
-strs-in c = all (commas-num dim dim-num c)
-
-pub list-in : (c : Commas ℤ) → In (run num) (commas decimal c)
-list-in c = all (commas-num decimal decimal-num c)
-
-pub decimal-in : (z : ℤ) → In (run num) (decimal z)
-decimal-in z = all (decimal-num z)
-
-pub entries-in : (e : Entries) → In (run num) (entries e)
-entries-in e = all (entries-num e)
-
 abbrev pub comma-shape : Shape
 comma-shape = lit (bytes ",") ▸ opt (lit (bytes " "))
 
 pub comma-in : (s : Bool) → In comma-shape (comma s)
 comma-in s = the & may-in s (bytes " ")
 
-abbrev pub strides-shape : Shape → Shape
-strides-shape r = alt r (comma-shape ▸ lit (bytes "strides=[") ▸ run num ▸ lit (bytes "]") ▸ r)
+-- a name, white space around it
+abbrev pub spaced : Shape
+spaced = run white ▸ oneOf words ▸ run white
 
-pub strides-in : {r : Shape} {t : List ℕ} (s : Form.Strides) → In r t → In (strides-shape r) (Form.strides s t)
-strides-in Form.Strides.absent i = left i
-strides-in (Form.Strides.given s c) i = right (comma-in s & the & strs-in c & the & i)
+abbrev pub named : (w : List ℕ) (n : Form.Name) (w′ : List ℕ) → T (every white w) → T (every white w′) → Of spaced
+named w n w′ h h′ = record { text = w ⊕ Form.word n ⊕ w′; is = all {t = w} h & pick-in words (n .index) & all {t = w′} h′ }
 
-abbrev pub mark-shape : Shape
-mark-shape = opt (lit (bytes ", #cuda_tile.ptr_attr<none>"))
+abbrev pub list-shape : Shape
+list-shape = run with-comma
+
+pub data Strides : Type 0 where
+  absent : Strides
+  given : Bool → Of list-shape → Strides
+
+-- the clause, and r after it
+abbrev pub strides : Strides → List ℕ → List ℕ
+strides absent r = r
+strides (given s l) r = comma s ⊕ bytes "strides=[" ⊕ l .text ⊕ bytes "]" ⊕ r
+
+abbrev pub strides-shape : Shape
+strides-shape = alt (lit []) (comma-shape ▸ lit (bytes "strides=[") ▸ list-shape ▸ lit (bytes "]") ▸ lit [])
+
+pub strides-in : (s : Strides) → In strides-shape (strides s [])
+strides-in absent = left the
+strides-in (given s l) = right (comma-in s & the & l .is & the & the)
+
+-- what stands in a tensor view's brackets
+pub record Body : Type 0 where
+  pub shape : Of (run with-x)
+  pub name : Of spaced
+  pub strides : Strides
+
+-- with r for the mark
+abbrev pub body : Body → List ℕ → List ℕ
+body t r = t .shape .text ⊕ t .name .text ⊕ strides (t .strides) r
 
 abbrev pub body-shape : Shape
-body-shape = run num ▸ oneOf words ▸ strides-shape mark-shape
+body-shape = run with-x ▸ spaced ▸ strides-shape
 
-pub body-in : (t : Tensor) → In body-shape (Form.body t)
-body-in t = dims-in (t .shape) & pick-in words (t .name .index) & strides-in (t .strides) (may-in (t .marked) (bytes ", #cuda_tile.ptr_attr<none>"))
+pub body-in : (t : Body) → In body-shape (body t [])
+body-in t = t .shape .is & t .name .is & strides-in (t .strides)
 
 abbrev pub pad-shape : Shape
 pad-shape = alt (lit []) (lit (bytes "padding_value=") ▸ oneOf pads ▸ comma-shape)
@@ -158,49 +135,97 @@ intro-in Form.bare = left the
 intro-in Form.prefixed = right (left the)
 intro-in Form.named = right (right the)
 
-abbrev pub map-shape : Shape
-map-shape = lit (bytes "dim_map=[") ▸ run num ▸ lit (bytes "]")
+-- the traversal strides, right behind the tile, with the space after their comma
+pub data Travel : Type 0 where
+  absent : Travel
+  given : Of list-shape → Bool → Travel
 
-pub map-in : (c : Commas ℤ) → In map-shape (Form.mapText c)
-map-in c = the & list-in c & the
+abbrev pub travel : Travel → List ℕ
+travel absent = []
+travel (given l s) = bytes "traversal_strides=[" ⊕ l .text ⊕ bytes "]" ⊕ comma s
 
 abbrev pub travel-shape : Shape
-travel-shape = lit (bytes "traversal_strides=[") ▸ run num ▸ lit (bytes "]") ▸ comma-shape
+travel-shape = alt (lit []) (lit (bytes "traversal_strides=[") ▸ list-shape ▸ lit (bytes "]") ▸ comma-shape)
 
-pub travel-in : (c : Commas ℤ) (s : Bool) → In travel-shape (Form.travelText c s)
-travel-in c s = the & list-in c & the & comma-in s
+pub travel-in : (m : Travel) → In travel-shape (travel m)
+travel-in absent = left the
+travel-in (given l s) = right (the & l .is & the & comma-in s)
+
+-- the last clause, with the space after its comma
+pub data Ending : Type 0 where
+  absent : Ending
+  map : Bool → Of list-shape → Ending
+  sparse : Bool → Of (run loose) → Ending
+
+abbrev pub ending : Ending → List ℕ
+ending absent = []
+ending (map s l) = comma s ⊕ bytes "dim_map=[" ⊕ l .text ⊕ bytes "]"
+ending (sparse s e) = comma s ⊕ bytes "sparse_dim=" ⊕ e .text
+
+abbrev pub map-shape : Shape
+map-shape = comma-shape ▸ lit (bytes "dim_map=[") ▸ list-shape ▸ lit (bytes "]")
 
 abbrev pub sparse-shape : Shape
-sparse-shape = lit (bytes "sparse_dim=") ▸ run num
+sparse-shape = comma-shape ▸ lit (bytes "sparse_dim=") ▸ run loose
 
--- what the three views have behind the tile, and at the end
-abbrev pub middle : Shape
-middle = alt (lit []) travel-shape
+abbrev pub ending-shape : Shape
+ending-shape = alt (lit []) (alt map-shape sparse-shape)
 
-abbrev pub end : Shape
-end = alt map-shape sparse-shape
+pub ending-in : (e : Ending) → In ending-shape (ending e)
+ending-in absent = left the
+ending-in (map s l) = right (left (comma-in s & the & l .is & the))
+ending-in (sparse s e) = right (right (comma-in s & the & e .is))
 
--- a view's inside but for its padding and its introduction: the texts, each of its shape
+-- what stands in a view's brackets
+pub record View : Type 0 where
+  pub tile : Of (run with-both)
+  pub space : Bool
+  pub travel : Travel
+  pub padding : Form.Pads
+  pub intro : Form.Intro
+  pub tensor : Body
+  pub ending : Ending
+
+-- tile entries, comma, traversal strides, padding, introduction, the tensor view's content, the end
+abbrev pub inner : List ℕ → List ℕ → List ℕ → List ℕ → List ℕ → List ℕ → List ℕ → List ℕ
+inner e c m p i b d = bytes "tile=(" ⊕ e ⊕ bytes ")" ⊕ c ⊕ m ⊕ p ⊕ i ⊕ bytes "tensor_view<" ⊕ b ⊕ bytes ">" ⊕ d
+
+-- with r for the mark
+abbrev pub view : View → List ℕ → List ℕ
+view v r = inner (v .tile .text) (comma (v .space)) (travel (v .travel)) (Form.padText (v .padding)) (Form.introText (v .intro)) (body (v .tensor) r) (ending (v .ending))
+
+-- a view's inside by shapes
+abbrev pub view-shape : Shape → Shape → Shape → Shape → Shape
+view-shape m p i d = lit (bytes "tile=(") ▸ run with-both ▸ lit (bytes ")") ▸ comma-shape ▸ m ▸ p ▸ i ▸ lit (bytes "tensor_view<") ▸ body-shape ▸ lit (bytes ">") ▸ d
+
+-- its parts but for padding and introduction, each with its shape
 pub record Parts (m d : Shape) : Type 0 where
-  pub te : List ℕ
-  pub tc : List ℕ
-  pub tm : List ℕ
-  pub tb : List ℕ
-  pub tc′ : List ℕ
-  pub td : List ℕ
-  pub ie : In (run num) te
-  pub ic : In comma-shape tc
-  pub im : In m tm
-  pub ib : In body-shape tb
-  pub ic′ : In comma-shape tc′
-  pub id : In d td
+  pub tile : Of (run with-both)
+  pub comma : Of comma-shape
+  pub middle : Of m
+  pub body : Of body-shape
+  pub end : Of d
 
 abbrev pub whole : {m d : Shape} → Parts m d → List ℕ → List ℕ → List ℕ
-whole w tp ti = Form.inner (w .te) (w .tc) (w .tm) tp ti (w .tb) (w .tc′) (w .td)
-
-abbrev pub view-shape : Shape → Shape → Shape → Shape → Shape
-view-shape m p i d = lit (bytes "tile=(") ▸ run num ▸ lit (bytes ")") ▸ comma-shape ▸ m ▸ p ▸ i ▸ lit (bytes "tensor_view<") ▸ body-shape
-    ▸ lit (bytes ">") ▸ comma-shape ▸ d
+whole w tp ti = inner (w .tile .text) (w .comma .text) (w .middle .text) tp ti (w .body .text) (w .end .text)
 
 pub whole-in : {m p i d : Shape} {tp ti : List ℕ} (w : Parts m d) → In p tp → In i ti → In (view-shape m p i d) (whole w tp ti)
-whole-in w ip ii = the & w .ie & the & w .ic & w .im & ip & ii & the & w .ib & the & w .ic′ & w .id
+whole-in w ip ii = the & w .tile .is & the & w .comma .is & w .middle .is & ip & ii & the & w .body .is & the & w .end .is
+
+abbrev pub parts-of : {m d : Shape} → View → Of m → Of d → Parts m d
+parts-of v m d = record {
+  tile = v .tile;
+  comma = record { text = comma (v .space); is = comma-in (v .space) };
+  middle = m;
+  body = record { text = body (v .tensor) []; is = body-in (v .tensor) };
+  end = d;
+}
+
+abbrev pub travel-of : View → Of travel-shape
+travel-of v = record { text = travel (v .travel); is = travel-in (v .travel) }
+
+abbrev pub ending-of : View → Of ending-shape
+ending-of v = record { text = ending (v .ending); is = ending-in (v .ending) }
+
+abbrev pub parts : View → Parts travel-shape ending-shape
+parts v = parts-of v (travel-of v) (ending-of v)

@@ -4,7 +4,7 @@ use Prim.Native.Nat.{ℕ, suc, _-_}
 use native.Mathlib.Omega.{arith}
 use mathlib.Core.Bool.{Bool, true, false, _&&_, not}
 use mathlib.Core.List.{List, [], _∷_, _++_, append-assoc}
-use mathlib.Core.Option.{Option, some}
+use mathlib.Core.Option.{Option, none, some}
 use mathlib.Core.Path.{_≡_, refl, subst, sym, ap, _∙_}
 use lib.Dec.{T}
 use lib.ListN.{length}
@@ -64,7 +64,7 @@ last-kept C [] h = absurd h
 last-kept C (c ∷ []) h = kept-behind C c [] (ap (λ (k : Bool). if k then [] else c ∷ []) (T-not-eq (C c) h))
 last-kept C (c ∷ d ∷ l) h = kept-behind C c (d ∷ l) (last-kept C (d ∷ l) h (c ∷ []))
 
-back-kept : (C : ℕ → Bool) {sh : Shape} {t : List ℕ} → In sh t → T (closes C sh) → Kept C t
+pub back-kept : (C : ℕ → Bool) {sh : Shape} {t : List ℕ} → In sh t → T (closes C sh) → Kept C t
 back-kept C (the {l = l}) h = last-kept C l h
 back-kept C (all k) h = absurd h
 back-kept C (left {a = a} {b = b} i) h = back-kept C i (and-left (closes C a) (closes C b) h)
@@ -150,10 +150,10 @@ pass n s = go (cut theMark (trim s))
     go (at u t) = refl
 
 -- one pass takes the mark out
-pub mark-pass : {a b : Shape} {g : List ℕ → List ℕ} (h : Hole a b g) → T (clears theMark theMark a) → T (free theMark b) → trim (g theMark) ≡ g theMark → (k : ℕ) →
-    passes (suc k) (g theMark) ≡ each with-attribute (passes k (g []))
-mark-pass {g = g} h c f e k =
-    pass k (g theMark)
+mark-pass : {a b : Shape} {g : List ℕ → List ℕ} (h : Hole a b g) → T (clears theMark theMark a) → T (free theMark b) → (s : List ℕ) → trim s ≡ g theMark → (k : ℕ) →
+    passes (suc k) s ≡ each with-attribute (passes k (g []))
+mark-pass {g = g} h c f s e k =
+    pass k s
     ∙ ap (λ (t : List ℕ). pass-by k t (cut theMark t)) (e ∙ sym (h .split theMark))
     ∙ ap (pass-by k (h .front ++ (theMark ++ h .tail))) (first theMark (h .is-front) c (h .tail))
     ∙ ap (λ (t : List ℕ). each with-attribute (passes k t))
@@ -162,32 +162,71 @@ mark-pass {g = g} h c f e k =
     ∙ h .split [])
 
 -- a text with no mark is read at once
-pub plain-pass : {a : Shape} {t : List ℕ} → In a t → T (free theMark a) → trim t ≡ t → (k : ℕ) → passes (suc k) t ≡ unmarked t
-plain-pass {t = t} i f e k =
-    pass k t ∙ ap (λ (t : List ℕ). pass-by k t (cut theMark t)) e ∙ ap (pass-by k t) (absent theMark i f)
+plain-pass : {a : Shape} {t : List ℕ} → In a t → T (free theMark a) → (s : List ℕ) → trim s ≡ t → (k : ℕ) → passes (suc k) s ≡ unmarked t
+plain-pass {t = t} i f s e k =
+    pass k s ∙ ap (λ (t : List ℕ). pass-by k t (cut theMark t)) e ∙ ap (pass-by k t) (absent theMark i f)
 
 abbrev pub attach : Bool → Found → Found
 attach true r = with-attribute r
 attach false r = r
+
+pub attach-none : (o : Option Found) → o ≡ each (attach false) o
+attach-none none = refl
+attach-none (some r) = refl
+
+attach-mark : (o : Option Found) → each with-attribute o ≡ each (attach true) o
+attach-mark none = refl
+attach-mark (some r) = refl
 
 trims : {a b : Shape} {g : List ℕ → List ℕ} (h : Hole a b g) → T (opens white a) → T (closes white b) → (r : List ℕ) → trim (g r) ≡ g r
 trims h o c r =
     ap trim (sym (h .split r)) ∙ ap (less-trailing white) (front-kept white (h .is-front) o (r ++ h .tail))
     ∙ ap (less-trailing white) (sym (append-assoc (h .front) r (h .tail))) ∙ back-kept white (h .is-tail) c (h .front ++ r) ∙ append-assoc (h .front) r (h .tail) ∙ h .split r
 
-long : (t : List ℕ) → T (not (vacant t)) → (R : Option Found) → ((k : ℕ) → passes (suc (suc k)) t ≡ R) → parse t ≡ R
+-- a text that opens is not empty, and so is none that trims to it
+opens-some : (C : ℕ → Bool) {sh : Shape} {t : List ℕ} → In sh t → T (opens C sh) → (s : List ℕ) → T (not (vacant (t ++ s)))
+opens-some C (the {l = l}) h s = go l h
+  where
+    go : (l : List ℕ) → T (opens C (lit l)) → T (not (vacant (l ++ s)))
+    go [] h = absurd h
+    go (c ∷ l) h = tt
+opens-some C (all k) h s = absurd h
+opens-some C (left {a = a} {b = b} i) h s = opens-some C i (and-left (opens C a) (opens C b) h) s
+opens-some C (right {a = a} {b = b} i) h s = opens-some C i (and-right (opens C a) (opens C b) h) s
+opens-some C (both {u = u} {v = v} i j) h s = subst (λ (t : List ℕ). T (not (vacant t))) (sym (append-assoc u v s)) (opens-some C i h (v ++ s))
+
+long : (s t : List ℕ) → trim s ≡ t → T (not (vacant t)) → (R : Option Found) → ((k : ℕ) → passes (suc (suc k)) s ≡ R) → parse s ≡ R
 unfolding parse
-long [] h R f = absurd h
-long (c ∷ t) h R f = f (length t)
+long [] t e h R f = absurd (subst (λ (t : List ℕ). T (not (vacant t))) (sym e) h)
+long (c ∷ s) t e h R f = f (length s)
+
+-- what is trimmed to t is read as o, and so is t
+pub record Reads (t : List ℕ) (o : Option Found) : Type 0 where
+  pub trimmed : trim t ≡ t
+  pub parsed : (s : List ℕ) → trim s ≡ t → parse s ≡ o
+
+pub finds : {t : List ℕ} {o p : Option Found} → Reads t o → o ≡ p → Reads t p
+finds r e = record { trimmed = r .trimmed; parsed = λ s h. r .parsed s h ∙ e }
+
+pub respelt : {t u : List ℕ} {o : Option Found} → t ≡ u → Reads t o → Reads u o
+respelt {o = o} e r = subst (λ (t : List ℕ). Reads t o) e r
+
+pub itself : {t : List ℕ} {o : Option Found} → Reads t o → parse t ≡ o
+itself {t} r = r .parsed t (r .trimmed)
+
+pub plainly : {a : Shape} {t : List ℕ} → In a t → T (free theMark a) → trim t ≡ t → T (not (vacant t)) → Reads t (unmarked t)
+plainly {t = t} i f e n = record { trimmed = e; parsed = λ s q. long s t q n (unmarked t) (λ k. plain-pass i f s q (suc k)) }
 
 -- all that is to be computed of a hole's shapes
 abbrev pub fit : Shape → Shape → Bool
 fit a b = clears theMark theMark a && free theMark b && free theMark (seq a b) && opens white a && closes white b
 
+pub hole-in : {a b : Shape} {g : List ℕ → List ℕ} → Hole a b g → In (seq a b) (g [])
+hole-in {a} {b} h = subst (In (seq a b)) (h .split []) (both (h .is-front) (h .is-tail))
+
 -- THE LAW of a text with a place for the mark: it is read as the text with none
-pub reads : {a b : Shape} {g : List ℕ → List ℕ} (h : Hole a b g) → T (fit a b) → (m : Bool) → T (not (vacant (g (may m theMark)))) → (R : Found) → unmarked (g []) ≡ some R →
-    parse (g (may m theMark)) ≡ some (attach m R)
-reads {a} {b} {g} h t m n R q = long (g (may m theMark)) n (some (attach m R)) (go m)
+pub reads : {a b : Shape} {g : List ℕ → List ℕ} (h : Hole a b g) → T (fit a b) → (m : Bool) → Reads (g (may m theMark)) (each (attach m) (unmarked (g [])))
+reads {a} {b} {g} h t m = record { trimmed = e (may m theMark); parsed = λ s q. long s (g (may m theMark)) q (any (may m theMark)) (each (attach m) (unmarked (g []))) (go m s q) }
   where
     x1 : Bool
     x1 = clears theMark theMark a
@@ -213,10 +252,10 @@ reads {a} {b} {g} h t m n R q = long (g (may m theMark)) n (some (attach m R)) (
     e : (r : List ℕ) → trim (g r) ≡ g r
     e = trims h (and-right (x1 && x2 && x3) x4 t4) (and-right (x1 && x2 && x3 && x4) x5 t)
 
-    in-all : In (seq a b) (g [])
-    in-all = subst (In (seq a b)) (h .split []) (both (h .is-front) (h .is-tail))
+    any : (r : List ℕ) → T (not (vacant (g r)))
+    any r = subst (λ (t : List ℕ). T (not (vacant t))) (h .split r) (opens-some white (h .is-front) (and-right (x1 && x2 && x3) x4 t4) (r ++ h .tail))
 
-    go : (m : Bool) (k : ℕ) → passes (suc (suc k)) (g (may m theMark)) ≡ some (attach m R)
-    go true k = mark-pass h (and-left x1 x2 (and-left (x1 && x2) x3 t3)) (and-right x1 x2 (and-left (x1 && x2) x3 t3)) (e theMark) (suc k)
-        ∙ ap (each with-attribute) (plain-pass in-all (and-right (x1 && x2) x3 t3) (e []) k ∙ q)
-    go false k = plain-pass in-all (and-right (x1 && x2) x3 t3) (e []) (suc k) ∙ q
+    go : (m : Bool) (s : List ℕ) → trim s ≡ g (may m theMark) → (k : ℕ) → passes (suc (suc k)) s ≡ each (attach m) (unmarked (g []))
+    go true s q k = mark-pass h (and-left x1 x2 (and-left (x1 && x2) x3 t3)) (and-right x1 x2 (and-left (x1 && x2) x3 t3)) s q (suc k)
+        ∙ ap (each with-attribute) (plain-pass (hole-in h) (and-right (x1 && x2) x3 t3) (g []) (e []) k) ∙ attach-mark (unmarked (g []))
+    go false s q k = plain-pass (hole-in h) (and-right (x1 && x2) x3 t3) s q (suc k) ∙ attach-none (unmarked (g []))

@@ -18,10 +18,33 @@ use Rattle.meaning.specs.Views.{small, tile-entries}
 use Rattle.grammar.specs.Tests.{every, and-left, and-right, is-true}
 use Rattle.accord.proofs.Shape.{run, all, absent, first, free, clears}
 use Rattle.accord.proofs.Bracket.{apart, apart-from}
-use Rattle.accord.proofs.Forms.{every-++}
-use Rattle.accord.proofs.Num.{every-mono, figure, decimal-figure, trim-none, numeral-decimal, ranged, decimal-visible, digits-digit}
+use Rattle.accord.proofs.Num.{or-left, every-mono, every-++, figure, decimal-figure, trim-none, numeral-decimal, ranged, decimal-visible, digits-digit}
 
 -- ── splitting ──
+abbrev some-of : List (List ℕ) → Bool
+some-of [] = false
+some-of (p ∷ l) = true
+
+parts-some : (x : ℕ) (t : List ℕ) → T (some-of (split x t))
+parts-some x [] = tt
+parts-some x (c ∷ t) = by (eqb x c) (split x t)
+  where
+    by : (k : Bool) (l : List (List ℕ)) → T (some-of (if k then [] ∷ l else onto-first c l))
+    by true l = tt
+    by false [] = tt
+    by false (p ∷ l) = tt
+
+-- what stands behind a byte x is split by itself
+pub split-behind : (x : ℕ) (t s : List ℕ) → split x (t ++ (x ∷ s)) ≡ split x t ++ split x s
+split-behind x [] s = ap (λ (k : Bool). if k then [] ∷ split x s else onto-first x (split x s)) (is-true (eqb x x) (eqb-refl x))
+split-behind x (c ∷ t) s = by (eqb x c) (split x t) (parts-some x t) (split-behind x t s)
+  where
+    by : (k : Bool) (l : List (List ℕ)) → T (some-of l) → split x (t ++ (x ∷ s)) ≡ l ++ split x s →
+        (if k then [] ∷ split x (t ++ (x ∷ s)) else onto-first c (split x (t ++ (x ∷ s)))) ≡ (if k then [] ∷ l else onto-first c l) ++ split x s
+    by true l n e = ap (λ (l : List (List ℕ)). [] ∷ l) e
+    by false [] n e = absurd n
+    by false (p ∷ l) n e = ap (onto-first c) e
+
 module _ (C : ℕ → Bool) (x : ℕ) (n : T (not (C x))) where
   pub split-none : (t : List ℕ) → T (every C t) → split x t ≡ t ∷ []
   split-none [] h = refl
@@ -30,10 +53,7 @@ module _ (C : ℕ → Bool) (x : ℕ) (n : T (not (C x))) where
       ∙ ap (onto-first c) (split-none t (and-right (C c) (every C t) h))
 
   pub split-at : (t s : List ℕ) → T (every C t) → split x (t ++ (x ∷ s)) ≡ t ∷ split x s
-  split-at [] s h = ap (λ (k : Bool). if k then [] ∷ split x s else onto-first x (split x s)) (is-true (eqb x x) (eqb-refl x))
-  split-at (c ∷ t) s h =
-      ap (λ (k : Bool). if k then [] ∷ split x (t ++ (x ∷ s)) else onto-first c (split x (t ++ (x ∷ s)))) (apart-from C x c n (and-left (C c) (every C t) h))
-      ∙ ap (onto-first c) (split-at t s (and-right (C c) (every C t) h))
+  split-at t s h = split-behind x t s ∙ ap (λ (l : List (List ℕ)). l ++ split x s) (split-none t h)
 
 -- ── entries ──
 abbrev pub exact : List ℤ → List Entry
@@ -46,10 +66,6 @@ dim-figure (known z) = decimal-figure z
 -- digits and `-`
 abbrev sd : ℕ → Bool
 sd c = digit c || eqb c 45
-
-or-left : (a b : Bool) → T a → T (a || b)
-or-left true b h = tt
-or-left false b h = absurd h
 
 decimal-sd : (z : ℤ) → T (every sd (decimal z))
 decimal-sd (pos n) = every-mono digit sd (λ c h. or-left (digit c) (eqb c 45) h) (digits n n []) (digits-digit n n [] tt)

@@ -3,7 +3,7 @@ use Prim.Native.Nat.{ℕ, zero, suc, _+_, _-_, _*_, _/_, _%_, _^_, _≤_, _<_}
 use native.Mathlib.Omega.{arith}
 use native.Mathlib.Nat.{mod-lt, zero-lt-suc, div-add-mod, le-refl}
 use mathlib.Core.Bool.{Bool, true, false, _&&_, _||_, not}
-use mathlib.Core.List.{List, [], _∷_}
+use mathlib.Core.List.{List, [], _∷_, _++_, append-nil}
 use mathlib.Core.Option.{none, some}
 use mathlib.Core.Path.{_≡_, refl, ap, _∙_}
 use lib.Dec.{T, eqb, leb, ltb, le→leb, leb→le, ltb→lt, nltb→le, eqb→eq}
@@ -42,6 +42,10 @@ pub every-mono : (C D : ℕ → Bool) → ((c : ℕ) → T (C c) → T (D c)) �
 every-mono C D f [] h = tt
 every-mono C D f (c ∷ t) h = and-in (D c) (every D t) (f c (and-left (C c) (every C t) h)) (every-mono C D f t (and-right (C c) (every C t) h))
 
+pub every-++ : (C : ℕ → Bool) (a b : List ℕ) → T (every C a) → T (every C b) → T (every C (a ++ b))
+every-++ C [] b h k = k
+every-++ C (c ∷ a) b h k = and-in (C c) (every C (a ++ b)) (and-left (C c) (every C a) h) (every-++ C a b (and-right (C c) (every C a) h) k)
+
 pub digits-digit : (f n : ℕ) (ds : List ℕ) → T (every digit ds) → T (every digit (digits f n ds))
 digits-digit zero n ds h = and-in (digit (48 + n % 10)) (every digit ds) (digit-ok (n % 10) (mod-lt n (zero-lt-suc 9))) h
 digits-digit (suc f) n ds h = go (ltb n 10) (ltb→lt n 10) (digits-digit f (n / 10) ((48 + n % 10) ∷ ds)
@@ -77,7 +81,7 @@ figure c = digit c || (eqb c 45 || eqb c 63)
 abbrev pub visible : ℕ → Bool
 visible c = ltb 32 c
 
-or-left : (a b : Bool) → T a → T (a || b)
+pub or-left : (a b : Bool) → T a → T (a || b)
 or-left true b h = tt
 or-left false b h = absurd h
 
@@ -112,6 +116,22 @@ back-none C [] h = refl
 back-none C (c ∷ t) h =
     ap (unless-last C c) (back-none C t (and-right (non C c) (every (non C) t) h)) ∙ keep-same C c t (T-not-eq (C c) (and-left (non C c) (every (non C) t) h))
 
+pub back-past : (C : ℕ → Bool) (t s : List ℕ) → T (every (non C) t) → less-trailing C (t ++ s) ≡ t ++ less-trailing C s
+back-past C [] s h = refl
+back-past C (c ∷ t) s h =
+    ap (unless-last C c) (back-past C t s (and-right (non C c) (every (non C) t) h)) ∙ keep-same C c (t ++ less-trailing C s) (T-not-eq (C c) (and-left (non C c) (every (non C) t) h))
+
+-- and all where all is of the class
+pub front-all : (C : ℕ → Bool) (t s : List ℕ) → T (every C t) → less-leading C (t ++ s) ≡ less-leading C s
+front-all C [] s h = refl
+front-all C (c ∷ t) s h =
+    ap (λ (k : Bool). if k then less-leading C (t ++ s) else c ∷ (t ++ s)) (is-true (C c) (and-left (C c) (every C t) h)) ∙ front-all C t s (and-right (C c) (every C t) h)
+
+pub back-all : (C : ℕ → Bool) (t : List ℕ) → T (every C t) → less-trailing C t ≡ []
+back-all C [] h = refl
+back-all C (c ∷ t) h =
+    ap (unless-last C c) (back-all C t (and-right (C c) (every C t) h)) ∙ ap (λ (k : Bool). if k then [] else c ∷ []) (is-true (C c) (and-left (C c) (every C t) h))
+
 pub visible-nonwhite : (c : ℕ) → T (visible c) → T (non white c)
 visible-nonwhite c h = let q = leb→le 33 c h in go (white c) (λ w. or-cases (leb 9 c && leb c 13) (eqb c 32) (λ d. let p = leb→le c 13 (and-right (leb 9 c) (leb c 13) d) in omega arith)
     (λ e. let p = eqb→eq c 32 e in omega arith) w)
@@ -119,6 +139,16 @@ visible-nonwhite c h = let q = leb→le 33 c h in go (white c) (λ w. or-cases (
     go : (k : Bool) → (T k → ⊥) → T (not k)
     go true f = absurd (f tt)
     go false f = tt
+
+-- white space around a text goes
+pub trim-around : (w t w′ : List ℕ) → T (every white w) → T (every visible t) → T (not (vacant t)) → T (every white w′) → trim (w ++ (t ++ w′)) ≡ t
+trim-around w t w′ h v n h′ =
+    let k = every-mono visible (non white) visible-nonwhite t v in
+    ap (less-trailing white) (front-all white w (t ++ w′) h ∙ begun t k n) ∙ back-past white t w′ k ∙ ap (λ (l : List ℕ). t ++ l) (back-all white w′ h′) ∙ append-nil t
+  where
+    begun : (t : List ℕ) → T (every (non white) t) → T (not (vacant t)) → less-leading white (t ++ w′) ≡ t ++ w′
+    begun [] k n = absurd n
+    begun (c ∷ t) k n = ap (λ (b : Bool). if b then less-leading white (t ++ w′) else c ∷ (t ++ w′)) (T-not-eq (white c) (and-left (non white c) (every (non white) t) k))
 
 pub trim-none : (t : List ℕ) → T (every visible t) → trim t ≡ t
 trim-none t h =
