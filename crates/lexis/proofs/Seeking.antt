@@ -115,6 +115,11 @@ module _ (p : ℕ → Bool) (s : List ℕ) (i : ℕ) where
   pub until-end : length s ≤ i → i + length (until p (drop i s)) ≡ i
   until-end h = rw (drop-of-length-le s h) (omega arith)
 
+pub until-here : (p : ℕ → Bool) (s : List ℕ) (i : ℕ) → p (getD s i 0) ≡ true → until p (drop i s) ≡ []
+until-here p [] i e = rw (drop-nil i)
+until-here p (b ∷ s) zero e = rw e
+until-here p (b ∷ s) (suc i) e = until-here p s i e
+
 -- what stands before is a beginning of the text
 pub until-within : (p : ℕ → Bool) (s : List ℕ) → length (until p s) ≤ length s
 until-within p [] = omega arith

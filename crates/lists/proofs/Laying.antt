@@ -59,12 +59,12 @@ few-of [] = omega arith
 few-of (read z ∷ es) = let h : fallen es ≤ length (L.map value es) = few-of es in omega arith
 few-of (fell z ∷ es) = let h : fallen es ≤ length (L.map value es) = few-of es in omega arith
 
-front-of : (ps : List Text) (p : Text) → front (ps ++ p ∷ []) ≡ ps
+pub front-of : (ps : List Text) (p : Text) → front (ps ++ p ∷ []) ≡ ps
 front-of [] p = refl
 front-of (q ∷ []) p = refl
 front-of (q ∷ r ∷ ps) p = ap (λ (l : List Text). q ∷ l) (front-of (r ∷ ps) p)
 
-last-of : (ps : List Text) (p : Text) → last (ps ++ p ∷ []) ≡ p
+pub last-of : (ps : List Text) (p : Text) → last (ps ++ p ∷ []) ≡ p
 last-of [] p = refl
 last-of (q ∷ []) p = refl
 last-of (q ∷ r ∷ ps) p = last-of (r ∷ ps) p

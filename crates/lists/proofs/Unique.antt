@@ -3,6 +3,7 @@
 use mathlib.Core.Path.{_≡_, sym, ap, _∙_}
 use Prim.Native.Nat.{ℕ, _-_}
 use native.Mathlib.Omega.{arith}
+use lib.IntN.{ℤ}
 use lib.ListN.{length, length-drop}
 use Rattle.lexis.specs.Text.{Text}
 use Rattle.lexis.proofs.Unique.{One}
@@ -14,6 +15,8 @@ use Rattle.lists.specs.declared.entry.Entry32.the-variants as E32
 use Rattle.lists.specs.declared.list.List64.{List64}
 use Rattle.lists.specs.declared.list.List32.{List32}
 use Rattle.lists.specs.declared.list.Front.{Front}
+use Rattle.lists.specs.declared.next.Next64.{Next64}
+use Rattle.lists.specs.declared.next.Next32.{Next32}
 use Rattle.lists.proofs.entry.parse_dim.Reads as parse-dim
 use Rattle.lists.proofs.entry.parse_small.Reads as parse-small
 use Rattle.lists.proofs.fill.none64.Reads as none64
@@ -26,6 +29,8 @@ use Rattle.lists.proofs.list.parse_dims.Reads as parse-dims
 use Rattle.lists.proofs.list.parse_front.Reads as parse-front
 use Rattle.lists.proofs.list.parse_smalls.Reads as parse-smalls
 use Rattle.lists.proofs.list.parse_one.Reads as parse-one
+use Rattle.lists.proofs.next.next_dim.Reads as next-dim
+use Rattle.lists.proofs.next.next_small.Reads as next-small
 
 -- ── entries ──
 
@@ -93,3 +98,17 @@ fronted-one w s {x} {y} p q =
 
 pub parse-front-one : One parse-front.Post
 parse-front-one κs a x y s t p q = fronted-one 8 _ p q
+
+-- ── an entry with its end ──
+
+next64-one : {x y : Next64} → x .end ≡ y .end → _≡_ {A = ℤ × ℕ} (x .value, x .fell) (y .value, y .fell) → x ≡ y
+next64-one e p = λ i. record { value = p i .0; fell = p i .1; end = e i }
+
+next32-one : {x y : Next32} → x .end ≡ y .end → _≡_ {A = ℤ × ℕ} (x .value, x .fell) (y .value, y .fell) → x ≡ y
+next32-one e p = λ i. record { value = p i .0; fell = p i .1; end = e i }
+
+pub next-dim-one : One next-dim.Post
+next-dim-one κs a x y s t p q = next64-one (p .0 ∙ sym (q .0)) (p .1 ∙ sym (q .1))
+
+pub next-small-one : One next-small.Post
+next-small-one κs a x y s t p q = next32-one (p .0 ∙ sym (q .0)) (p .1 ∙ sym (q .1))

@@ -1,3 +1,4 @@
 -- What the list readers' contracts say.
 pub mod Laid
+pub mod Next
 pub mod Push

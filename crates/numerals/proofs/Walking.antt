@@ -1,20 +1,22 @@
--- Laws of a part that is walked once: white bytes, a sign, digits up to the separator x, which is none of these.
+-- Laws of a part that is walked once: white bytes, a sign, digits up to a byte that passes a test p, which none of these passes.
 -- What is passed is left out of the part's length, of its trimmed text and of its number.
 use mathlib.Core.Path.{_≡_, refl, sym, ap, subst, _∙_}
 use mathlib.Core.Bool.{Bool, true, false, _&&_, _||_, not, false≢true}
 use mathlib.Core.List.{[], _∷_}
 use mathlib.Core.Option.{none, some}
 use Prim.Native.Nat.{ℕ, _+_, _-_, _*_, _^_, _≤_, _<_}
+use native.Mathlib.Nat.{zero-add, add-zero}
 use native.Mathlib.Omega.{arith}
-use borrow.Author.Tests.{eqb-true, eqb-false, ltb-true, leb-true, ne-eqb, eq-eqb, le-leb, lt-leb}
+use borrow.Author.Tests.{eqb-true, eqb-false, ltb-true, leb-true, leb-false, ne-eqb, le-leb, lt-leb}
 use lib.Dec.{eqb, leb, ltb}
 use lib.IntN.{pos}
-use lib.ListN.{length, take, drop, getD, drop-of-length-le}
-use Rattle.lexis.specs.Text.{Text, if_then_else_, until, less-trailing, unless-last, white, trim}
-use Rattle.numerals.specs.Numeral.{digit, number-from, number, minus, numeral}
-use Rattle.numerals.specs.Parts.{ink, apart, odd}
+use lib.ListN.{length, take, drop, getD, drop-of-length-le, List·getD-eq-default}
+use lib.Seq.{drop-drop, getD-drop}
+use Rattle.lexis.specs.Text.{Text, if_then_else_, until, less-trailing, unless-last, white, ink, trim}
+use Rattle.numerals.specs.Numeral.{digit, number-from, number, at-most, minus, numeral}
+use Rattle.numerals.specs.Parts.{apart, odd, Running}
 use Rattle.lexis.proofs.Lists.{view}
-use Rattle.lexis.proofs.Seeking.{never, until-step, until-stop, until-take}
+use Rattle.lexis.proofs.Seeking.{never, until-step, until-stop, until-here, until-take}
 
 -- ── a byte that isn't white stays where a text is trimmed ──
 
@@ -39,72 +41,103 @@ no-number : (u : Text) → number-from 0 u ≡ none → number u ≡ none
 no-number [] e = refl
 no-number (b ∷ u) e = e
 
--- ── digits: those from the place k on up to i wrote n ──
+-- ── what is passed over ──
 
-module _ (x : ℕ) where
-  pub record Running (s : Text) (k i n : ℕ) : Type 0 where
-    pub onward : k ≤ i
-    pub len : k + length (until (eqb x) (drop k s)) ≡ i + length (until (eqb x) (drop i s))
-    pub same : number-from 0 (until (eqb x) (drop k s)) ≡ number-from n (until (eqb x) (drop i s))
-    pub trimmed : number-from 0 (less-trailing white (until (eqb x) (drop k s))) ≡ number-from n (less-trailing white (until (eqb x) (drop i s)))
-    pub lead : (i ≡ k → ⊥) → 48 ≤ getD s k 0
+-- no white byte, no digit and no minus passes
+pub record Quiet (p : ℕ → Bool) : Type 0 where
+  pub on-white : (b : ℕ) → white b ≡ true → p b ≡ false
+  pub on-digit : (b : ℕ) → 48 ≤ b → b ≤ 57 → p b ≡ false
+  pub on-minus : p 45 ≡ false
 
-  pub begun : (s : Text) (k : ℕ) → Running s k k 0
-  begun s k = record { onward = omega arith; len = refl; same = refl; trimmed = refl; lead = λ n. absurd (n refl) }
+pub white-low : (b : ℕ) → white b ≡ true → b ≤ 32
+white-low b e = by (leb 9 b) (leb b 13) (eqb b 32) (leb-true b 13) (eqb-true b 32) e
+  where
+    by : (c d g : Bool) → (d ≡ true → b ≤ 13) → (g ≡ true → b ≡ 32) → (c && d) || g ≡ true → b ≤ 32
+    by true true g p q e = let h = p refl in omega arith
+    by true false true p q e = let h = q refl in omega arith
+    by true false false p q e = absurd (false≢true e)
+    by false d true p q e = let h = q refl in omega arith
+    by false d false p q e = absurd (false≢true e)
 
--- ── the separator ──
+-- such is a separator that is a comma or past the digits
+pub quiet : (x : ℕ) → apart x ≡ true → Quiet (eqb x)
+quiet x f =
+    record {
+      on-white = λ b e. far b (λ k. omega (arith, white-low b e)) (omega (arith, white-low b e));
+      on-digit = λ b l u. far b (λ k. omega arith) (omega arith);
+      on-minus = far 45 (λ k. omega arith) (omega arith);
+    }
+  where
+    far : (b : ℕ) → (b ≡ 44 → ⊥) → b < 58 → eqb x b ≡ false
+    far b n h = by (eqb x 44) (leb 58 x) (eqb-true x 44) (leb-true 58 x) f
+      where
+        by : (c d : Bool) → (c ≡ true → x ≡ 44) → (d ≡ true → 58 ≤ x) → c || d ≡ true → eqb x b ≡ false
+        by true d p q e = ne-eqb x b (λ k. n (sym k ∙ p refl))
+        by false true p q e = ne-eqb x b (λ k. let g = q refl in omega arith)
+        by false false p q e = absurd (false≢true e)
 
-module _ (x : ℕ) (f : apart x ≡ true) where
-  far : (b : ℕ) → (b ≡ 44 → ⊥) → b < 58 → eqb x b ≡ false
-  far b n h = by (eqb x 44) (leb 58 x) (eqb-true x 44) (leb-true 58 x) f
-    where
-      by : (c d : Bool) → (c ≡ true → x ≡ 44) → (d ≡ true → 58 ≤ x) → c || d ≡ true → eqb x b ≡ false
-      by true d p q e = ne-eqb x b (λ k. n (sym k ∙ p refl))
-      by false true p q e = ne-eqb x b (λ k. let g = q refl in omega arith)
-      by false false p q e = absurd (false≢true e)
+pub begun : (p : ℕ → Bool) (s : Text) (k : ℕ) → Running p s k k 0
+begun p s k = record { onward = omega arith; len = refl; same = refl; trimmed = refl; lead = λ n. absurd (n refl) }
 
-  -- ── white bytes in front ──
-
-  white-low : (b : ℕ) → white b ≡ true → (b ≡ 44 → ⊥) × (b < 58)
-  white-low b e = by (leb 9 b) (leb b 13) (eqb b 32) (leb-true b 13) (eqb-true b 32) e
-    where
-      by : (c d g : Bool) → (d ≡ true → b ≤ 13) → (g ≡ true → b ≡ 32) → (c && d) || g ≡ true → (b ≡ 44 → ⊥) × (b < 58)
-      by true true g p q e = let h = p refl in (λ k. omega arith, omega arith)
-      by true false true p q e = let h = q refl in (λ k. omega arith, omega arith)
-      by true false false p q e = absurd (false≢true e)
-      by false d true p q e = let h = q refl in (λ k. omega arith, omega arith)
-      by false d false p q e = absurd (false≢true e)
+module _ {p : ℕ → Bool} (q : Quiet p) where
+  -- ── white bytes ──
 
   abbrev first : Text → ℕ
   first t = length (until ink t)
 
-  pub len-behind : (t : Text) → length (until (eqb x) t) ≡ first t + length (until (eqb x) (drop (first t) t))
+  len-behind : (t : Text) → length (until p t) ≡ first t + length (until p (drop (first t) t))
   len-behind [] = refl
-  len-behind (b ∷ t) = by (white b) (λ e. far b (white-low b e .0) (white-low b e .1)) (len-behind t)
+  len-behind (b ∷ t) = by (white b) (q .on-white b) (len-behind t)
     where
       n : Bool → ℕ
       n c = length (if not c then [] else b ∷ until ink t)
 
-      by : (c : Bool) → (c ≡ true → eqb x b ≡ false) → length (until (eqb x) t) ≡ first t + length (until (eqb x) (drop (first t) t))
-          → length (until (eqb x) (b ∷ t)) ≡ n c + length (until (eqb x) (drop (n c) (b ∷ t)))
+      by : (c : Bool) → (c ≡ true → p b ≡ false) → length (until p t) ≡ first t + length (until p (drop (first t) t))
+          → length (until p (b ∷ t)) ≡ n c + length (until p (drop (n c) (b ∷ t)))
       by true g r = rw (g refl) (omega arith)
       by false g r = omega arith
 
-  pub trim-behind : (t : Text) → trim (until (eqb x) t) ≡ trim (until (eqb x) (drop (first t) t))
+  trim-behind : (t : Text) → trim (until p t) ≡ trim (until p (drop (first t) t))
   trim-behind [] = refl
-  trim-behind (b ∷ t) = by (white b) refl (λ e. far b (white-low b e .0) (white-low b e .1)) (trim-behind t)
+  trim-behind (b ∷ t) = by (white b) refl (q .on-white b) (trim-behind t)
     where
       n : Bool → ℕ
       n c = length (if not c then [] else b ∷ until ink t)
 
-      by : (c : Bool) → white b ≡ c → (c ≡ true → eqb x b ≡ false) → trim (until (eqb x) t) ≡ trim (until (eqb x) (drop (first t) t))
-          → trim (until (eqb x) (b ∷ t)) ≡ trim (until (eqb x) (drop (n c) (b ∷ t)))
+      by : (c : Bool) → white b ≡ c → (c ≡ true → p b ≡ false) → trim (until p t) ≡ trim (until p (drop (first t) t))
+          → trim (until p (b ∷ t)) ≡ trim (until p (drop (n c) (b ∷ t)))
       by true w g r = rw (g refl, w) r
       by false w g r = refl
 
+  nothing-behind : (t : Text) → until p (drop (first t) t) ≡ [] → less-trailing white (until p t) ≡ []
+  nothing-behind [] e = refl
+  nothing-behind (b ∷ t) e = by (white b) refl (q .on-white b) (nothing-behind t) e
+    where
+      n : Bool → ℕ
+      n c = length (if not c then [] else b ∷ until ink t)
+
+      by : (c : Bool) → white b ≡ c → (c ≡ true → p b ≡ false) → (until p (drop (first t) t) ≡ [] → less-trailing white (until p t) ≡ [])
+          → until p (drop (n c) (b ∷ t)) ≡ [] → less-trailing white (until p (b ∷ t)) ≡ []
+      by true w g r e = rw (g refl) (ap (unless-last white b) (r e) ∙ rw w)
+      by false w g r e = ap (less-trailing white) e
+
+  -- those from the place m on end at i
+  module _ (s : Text) (m : ℕ) {i : ℕ} (a : i ≡ m + length (until ink (drop m s))) where
+    rest-at : drop (first (drop m s)) (drop m s) ≡ drop i s
+    rest-at = drop-drop (first (drop m s)) m s ∙ ap (λ (z : ℕ). drop z s) (sym a)
+
+    pub white-len : m + length (until p (drop m s)) ≡ i + length (until p (drop i s))
+    white-len = let l = len-behind (drop m s) in let k = ap (λ (t : Text). length (until p t)) rest-at in omega arith
+
+    pub white-trim : trim (until p (drop m s)) ≡ trim (until p (drop i s))
+    white-trim = trim-behind (drop m s) ∙ ap (λ (t : Text). trim (until p t)) rest-at
+
+    pub white-all : p (getD s i 0) ≡ true → less-trailing white (until p (drop m s)) ≡ []
+    white-all h = nothing-behind (drop m s) (ap (until p) rest-at ∙ until-here p s i h)
+
   -- ── one digit more, and the end ──
 
-  module _ {s : Text} {k i n : ℕ} (g : Running x s k i n) where
+  module _ {s : Text} {k i n : ℕ} (g : Running p s k i n) where
     led : {b : ℕ} → b ≡ getD s i 0 → 48 ≤ b → 48 ≤ getD s k 0
     led {b} m l = by (eqb i k) refl
       where
@@ -112,55 +145,54 @@ module _ (x : ℕ) (f : apart x ≡ true) where
         by true e = subst (λ (j : ℕ). 48 ≤ getD s j 0) (eqb-true i k e) (omega arith)
         by false e = g .lead (eqb-false i k e)
 
-    pub step : {b : ℕ} → b ≡ getD s i 0 → i < length s → 48 ≤ b → b ≤ 57 → Running x s k (i + 1) (n * 10 + (b - 48))
+    pub step : {b : ℕ} → b ≡ getD s i 0 → i < length s → 48 ≤ b → b ≤ 57 → Running p s k (i + 1) (n * 10 + (b - 48))
     step {b} m h l u =
-        let o : (b ≡ 44 → ⊥) = λ e. omega arith in
-        let e : until (eqb x) (drop i s) ≡ b ∷ until (eqb x) (drop (i + 1) s) = rw (view s i h, sym m, far b o (omega arith)) in
+        let e : until p (drop i s) ≡ b ∷ until p (drop (i + 1) s) = rw (view s i h, sym m, q .on-digit b l u) in
         record {
           onward = omega (arith, g .onward);
           len = g .len ∙ ap (λ (v : Text). i + length v) e ∙ omega arith;
           same = g .same ∙ ap (number-from n) e ∙ rw (le-leb 48 b l, le-leb b 57 u);
           trimmed =
               g .trimmed ∙ ap (λ (v : Text). number-from n (less-trailing white v)) e
-              ∙ ap (number-from n) (kept b (less-trailing white (until (eqb x) (drop (i + 1) s))) (black b (omega arith)))
+              ∙ ap (number-from n) (kept b (less-trailing white (until p (drop (i + 1) s))) (black b (omega arith)))
               ∙ rw (le-leb 48 b l, le-leb b 57 u);
           lead = λ z. led m l;
         }
 
-    ended : until (eqb x) (drop i s) ≡ [] → (i ≡ k → ⊥)
-        → (i ≡ k + length (until (eqb x) (drop k s))) × (number (until (eqb x) (drop k s)) ≡ some n)
+    ended : until p (drop i s) ≡ [] → (i ≡ k → ⊥)
+        → (i ≡ k + length (until p (drop k s))) × (number (until p (drop k s)) ≡ some n)
     ended e m =
-        let l : k + length (until (eqb x) (drop k s)) ≡ i + 0 = g .len ∙ ap (λ (v : Text). i + length v) e in
-        (omega arith, by (until (eqb x) (drop k s)) (omega (arith, g .onward)) (g .same ∙ ap (number-from n) e))
+        let l : k + length (until p (drop k s)) ≡ i + 0 = g .len ∙ ap (λ (v : Text). i + length v) e in
+        (omega arith, by (until p (drop k s)) (omega (arith, g .onward)) (g .same ∙ ap (number-from n) e))
       where
         by : (u : Text) → 0 < length u → number-from 0 u ≡ some n → number u ≡ some n
         by [] h e = let f : ⊥ = omega arith in absurd f
         by (b ∷ u) h e = e
 
-    pub at-end : length s ≤ i → (i ≡ k → ⊥) → (i ≡ k + length (until (eqb x) (drop k s))) × (number (until (eqb x) (drop k s)) ≡ some n)
+    pub at-end : length s ≤ i → (i ≡ k → ⊥) → (i ≡ k + length (until p (drop k s))) × (number (until p (drop k s)) ≡ some n)
     at-end h = ended (rw (drop-of-length-le s h))
 
-    pub at-next : i < length s → getD s i 0 ≡ x → (i ≡ k → ⊥) → (i ≡ k + length (until (eqb x) (drop k s))) × (number (until (eqb x) (drop k s)) ≡ some n)
-    at-next h e = ended (rw (view s i h, eq-eqb x (getD s i 0) (sym e)))
+    pub at-next : p (getD s i 0) ≡ true → (i ≡ k → ⊥) → (i ≡ k + length (until p (drop k s))) × (number (until p (drop k s)) ≡ some n)
+    at-next e = ended (until-here p s i e)
 
     -- an odd byte next: the part is no number, trimmed
-    pub at-odd : i < length s → (getD s i 0 ≡ x → ⊥) → odd (getD s i 0) ≡ true → (i ≡ k → ⊥) → {e : ℕ} → e ≡ i + length (until (eqb x) (drop i s))
-        → (e ≡ k + length (until (eqb x) (drop k s))) × (number (less-trailing white (until (eqb x) (drop k s))) ≡ none) × (48 ≤ getD (drop k s) 0 0)
-    at-odd h d o m p =
+    pub at-odd : i < length s → p (getD s i 0) ≡ false → odd (getD s i 0) ≡ true → (i ≡ k → ⊥) → {e : ℕ} → e ≡ i + length (until p (drop i s))
+        → (e ≡ k + length (until p (drop k s))) × (number (less-trailing white (until p (drop k s))) ≡ none) × (48 ≤ getD (drop k s) 0 0)
+    at-odd h d o m v =
         let b = getD s i 0 in
-        let e : until (eqb x) (drop i s) ≡ b ∷ until (eqb x) (drop (i + 1) s) = rw (view s i h, ne-eqb x b (λ z. d (sym z))) in
+        let e : until p (drop i s) ≡ b ∷ until p (drop (i + 1) s) = rw (view s i h, d) in
         let c = odd-byte b o in (
-          p ∙ sym (g .len),
-          no-number (less-trailing white (until (eqb x) (drop k s)))
+          v ∙ sym (g .len),
+          no-number (less-trailing white (until p (drop k s)))
               (g .trimmed ∙ ap (λ (v : Text). number-from n (less-trailing white v)) e
-              ∙ ap (number-from n) (kept b (less-trailing white (until (eqb x) (drop (i + 1) s))) (c .0)) ∙ rw (c .1)),
+              ∙ ap (number-from n) (kept b (less-trailing white (until p (drop (i + 1) s))) (c .0)) ∙ rw (c .1)),
           rw (view s k (omega (arith, g .onward))) (g .lead m),
         )
 
-  pub zero-more : {s : Text} {k i : ℕ} → Running x s k i 0 → i < length s → getD s i 0 ≡ 48 → Running x s k (i + 1) 0
+  pub zero-more : {s : Text} {k i : ℕ} → Running p s k i 0 → i < length s → getD s i 0 ≡ 48 → Running p s k (i + 1) 0
   zero-more {s} {k} {i} g h e =
       let z : 0 * 10 + (getD s i 0 - 48) ≡ 0 = omega arith in
-      subst (λ (m : ℕ). Running x s k (i + 1) m) z (step g refl h (omega arith) (omega arith))
+      subst (λ (m : ℕ). Running p s k (i + 1) m) z (step g refl h (omega arith) (omega arith))
 
 -- ── what the trimmed part is ──
 
@@ -188,21 +220,19 @@ tight m (b ∷ u) {n} e = by (digit b) (is-digit b) (tight (m * 10 + (b - 48)) u
     by true g r e = ap (unless-last white b) (r e) ∙ kept b u (black b (let h = g refl .low in omega arith))
     by false g r e = absurd (absent e)
 
--- ── the whole part, where white bytes stand before i ──
+-- a byte that isn't 0 stands inside
+pub seen : (s : Text) (i : ℕ) {b : ℕ} → getD s i 0 ≡ b → 0 < b → i < length s
+seen s i e h = by (leb (length s) i) (leb-true (length s) i) (leb-false (length s) i)
+  where
+    by : (c : Bool) → (c ≡ true → length s ≤ i) → (c ≡ false → i < length s) → i < length s
+    by true f g = let z = List·getD-eq-default s 0 (f refl) in let o : ⊥ = omega arith in absurd o
+    by false f g = g refl
 
-module _ (x : ℕ) (f : apart x ≡ true) (s : Text) {i : ℕ} (a : i ≡ length (until ink s)) where
-  whole-trim : trim (until (eqb x) s) ≡ trim (until (eqb x) (drop i s))
-  whole-trim = rw a (trim-behind x f s)
+-- a byte that doesn't pass
+pub behind : (p : ℕ → Bool) (s : Text) (i : ℕ) {b : ℕ} → getD s i 0 ≡ b → 0 < b → p b ≡ false → until p (drop i s) ≡ b ∷ until p (drop (i + 1) s)
+behind p s i e h f = rw (view s i (seen s i e h), e, f)
 
-  pub plus-len : {e : ℕ} → e ≡ i + length (until (eqb x) (drop i s)) → e ≡ length (until (eqb x) s)
-  plus-len p = p ∙ sym (rw a (len-behind x f s))
-
-  module _ (h : i < length s) (k : getD s i 0 ≡ 45) where
-    behind-sign : until (eqb x) (drop i s) ≡ 45 ∷ until (eqb x) (drop (i + 1) s)
-    behind-sign = rw (view s i h, k, far x f 45 (λ m. omega arith) (omega arith))
-
-    pub minus-len : {e : ℕ} → e ≡ (i + 1) + length (until (eqb x) (drop (i + 1) s)) → e ≡ length (until (eqb x) s)
-    minus-len {e} p = let l = ap length behind-sign in plus-len (let o : e ≡ i + length (until (eqb x) (drop i s)) = omega arith in o)
+-- ── what it says as a numeral ──
 
 module _ (w : ℕ) where
   plain : (u : Text) {n : ℕ} → number u ≡ some n → n ≤ 2 ^ (w - 1) - 1 → numeral w (trim u) ≡ some (pos n)
@@ -220,54 +250,123 @@ module _ (w : ℕ) where
   signed [] e h = absurd (absent e)
   signed (b ∷ u) {n} e h = rw (tight 0 (b ∷ u) e, e, le-leb n (2 ^ (w - 1)) h)
 
-  odd-plain : (x b : ℕ) (t : Text) → 48 ≤ b → number (less-trailing white (until (eqb x) (b ∷ t))) ≡ none → numeral w (trim (until (eqb x) (b ∷ t))) ≡ none
-  odd-plain x b t h = by (eqb x b)
+  -- by the trimmed part: where its first byte isn't below the digits, and behind a minus
+  bare : (p : ℕ → Bool) (t : Text) → 48 ≤ getD t 0 0 → numeral w (trim (until p t)) ≡ at-most (2 ^ (w - 1) - 1) pos (number (less-trailing white (until p t)))
+  bare p [] h = refl
+  bare p (b ∷ t) h = by (p b)
     where
-      by : (d : Bool) → number (less-trailing white (if d then [] else b ∷ until (eqb x) t)) ≡ none → numeral w (trim (if d then [] else b ∷ until (eqb x) t)) ≡ none
-      by true e = refl
-      by false e =
-          let k = kept b (less-trailing white (until (eqb x) t)) (black b (omega arith)) in
-          rw (black b (omega arith), k, ne-eqb b 45 (λ m. omega arith), ne-eqb b 43 (λ m. omega arith), sym (ap number k) ∙ e)
-
-  odd-signed : (u : Text) → number (less-trailing white u) ≡ none → numeral w (trim (45 ∷ u)) ≡ none
-  odd-signed u e = rw (kept 45 (less-trailing white u) refl, e)
-
-  strange : (x b : ℕ) (t : Text) → 57 < b → numeral w (trim (until (eqb x) (b ∷ t))) ≡ none
-  strange x b t h = by (eqb x b)
-    where
-      by : (d : Bool) → numeral w (trim (if d then [] else b ∷ until (eqb x) t)) ≡ none
+      by : (d : Bool) → numeral w (trim (if d then [] else b ∷ until p t)) ≡ at-most (2 ^ (w - 1) - 1) pos (number (less-trailing white (if d then [] else b ∷ until p t)))
       by true = refl
       by false =
-          let k = kept b (less-trailing white (until (eqb x) t)) (black b (omega arith)) in
+          let k = kept b (less-trailing white (until p t)) (black b (omega arith)) in
+          rw (black b (omega arith), k, ne-eqb b 45 (λ m. omega arith), ne-eqb b 43 (λ m. omega arith))
+
+  behind-minus : (u : Text) → numeral w (trim (45 ∷ u)) ≡ at-most (2 ^ (w - 1)) minus (number (less-trailing white u))
+  behind-minus u = rw (kept 45 (less-trailing white u) refl)
+
+  strange : (p : ℕ → Bool) (b : ℕ) (t : Text) → 57 < b → numeral w (trim (until p (b ∷ t))) ≡ none
+  strange p b t h = by (p b)
+    where
+      by : (d : Bool) → numeral w (trim (if d then [] else b ∷ until p t)) ≡ none
+      by true = refl
+      by false =
+          let k = kept b (less-trailing white (until p t)) (black b (omega arith)) in
           rw (black b (omega arith), k, ne-eqb b 45 (λ m. omega arith), ne-eqb b 43 (λ m. omega arith), le-leb 48 b (omega arith), lt-leb b 57 h)
 
+-- ── the whole part, where white bytes stand before i ──
+
+module _ {p : ℕ → Bool} (q : Quiet p) (s : Text) {i : ℕ} (a : i ≡ length (until ink s)) where
+  at-front : i ≡ 0 + length (until ink (drop 0 s))
+  at-front = a ∙ sym (zero-add (length (until ink s)))
+
+  pub plus-len : {e : ℕ} → e ≡ i + length (until p (drop i s)) → e ≡ length (until p s)
+  plus-len v = v ∙ sym (white-len q s 0 at-front) ∙ zero-add (length (until p s))
+
+  pub minus-len : getD s i 0 ≡ 45 → {e : ℕ} → e ≡ (i + 1) + length (until p (drop (i + 1) s)) → e ≡ length (until p s)
+  minus-len k {e} v = let l = ap length (behind p s i k (omega arith) (q .on-minus)) in plus-len (let o : e ≡ i + length (until p (drop i s)) = omega arith in o)
+
   -- the numeral of the whole part
-  module _ (x : ℕ) (f : apart x ≡ true) (s : Text) {i : ℕ} (a : i ≡ length (until ink s)) where
-    pub no-numeral : i < length s → 57 < getD s i 0 → none ≡ numeral w (trim (until (eqb x) s))
+  module _ (w : ℕ) where
+    whole : numeral w (trim (until p s)) ≡ numeral w (trim (until p (drop i s)))
+    whole = ap (numeral w) (white-trim q s 0 at-front)
+
+    signed-whole : getD s i 0 ≡ 45 → numeral w (trim (until p s)) ≡ numeral w (trim (45 ∷ until p (drop (i + 1) s)))
+    signed-whole k = whole ∙ ap (λ (t : Text). numeral w (trim t)) (behind p s i k (omega arith) (q .on-minus))
+
+    pub no-numeral : i < length s → 57 < getD s i 0 → none ≡ numeral w (trim (until p s))
     no-numeral h k =
-        sym (ap (numeral w) (whole-trim x f s a) ∙ ap (λ (t : Text). numeral w (trim (until (eqb x) t))) (view s i h)
-        ∙ strange x (getD s i 0) (drop (i + 1) s) k)
+        sym (whole ∙ ap (λ (t : Text). numeral w (trim (until p t))) (view s i h) ∙ strange w p (getD s i 0) (drop (i + 1) s) k)
 
-    pub plus-part : {n : ℕ} → number (until (eqb x) (drop i s)) ≡ some n → n ≤ 2 ^ (w - 1) - 1 → some (pos n) ≡ numeral w (trim (until (eqb x) s))
-    plus-part q r = sym (ap (numeral w) (whole-trim x f s a) ∙ plain (until (eqb x) (drop i s)) q r)
+    pub plus-part : {n : ℕ} → number (until p (drop i s)) ≡ some n → n ≤ 2 ^ (w - 1) - 1 → some (pos n) ≡ numeral w (trim (until p s))
+    plus-part e h = sym (whole ∙ plain w (until p (drop i s)) e h)
 
-    pub minus-part : {n : ℕ} → i < length s → getD s i 0 ≡ 45 → number (until (eqb x) (drop (i + 1) s)) ≡ some n → n ≤ 2 ^ (w - 1)
-        → some (minus n) ≡ numeral w (trim (until (eqb x) s))
-    minus-part h k q r =
-        sym (ap (numeral w) (whole-trim x f s a) ∙ ap (λ (t : Text). numeral w (trim t)) (behind-sign x f s a h k)
-        ∙ signed (until (eqb x) (drop (i + 1) s)) q r)
+    pub minus-part : {n : ℕ} → getD s i 0 ≡ 45 → number (until p (drop (i + 1) s)) ≡ some n → n ≤ 2 ^ (w - 1) → some (minus n) ≡ numeral w (trim (until p s))
+    minus-part k e h = sym (signed-whole k ∙ signed w (until p (drop (i + 1) s)) e h)
 
-    pub plus-odd : i < length s → number (less-trailing white (until (eqb x) (drop i s))) ≡ none → 48 ≤ getD (drop i s) 0 0
-        → none ≡ numeral w (trim (until (eqb x) s))
-    plus-odd h q r =
-        sym (ap (numeral w) (whole-trim x f s a) ∙ ap (λ (t : Text). numeral w (trim (until (eqb x) t))) (view s i h)
-        ∙ odd-plain x (getD s i 0) (drop (i + 1) s) (rw (view s i h) at r) (rw (view s i h) at q))
+    pub plus-odd : number (less-trailing white (until p (drop i s))) ≡ none → 48 ≤ getD (drop i s) 0 0 → none ≡ numeral w (trim (until p s))
+    plus-odd e h = sym (whole ∙ bare w p (drop i s) h ∙ ap (at-most (2 ^ (w - 1) - 1) pos) e)
 
-    pub minus-odd : i < length s → getD s i 0 ≡ 45 → number (less-trailing white (until (eqb x) (drop (i + 1) s))) ≡ none
-        → none ≡ numeral w (trim (until (eqb x) s))
-    minus-odd h k q =
-        sym (ap (numeral w) (whole-trim x f s a) ∙ ap (λ (t : Text). numeral w (trim t)) (behind-sign x f s a h k)
-        ∙ odd-signed (until (eqb x) (drop (i + 1) s)) q)
+    pub minus-odd : getD s i 0 ≡ 45 → number (less-trailing white (until p (drop (i + 1) s))) ≡ none → none ≡ numeral w (trim (until p s))
+    minus-odd k e = sym (signed-whole k ∙ behind-minus w (until p (drop (i + 1) s)) ∙ ap (at-most (2 ^ (w - 1)) minus) e)
+
+-- ── for callers: a part from the place m on, with white bytes at both ends ──
+
+-- white bytes up to i, a minus if `neg`, digits from k up to j that wrote n, white bytes up to e
+pub record Gone (p : ℕ → Bool) (s : Text) (m i : ℕ) (neg : Bool) (k j n e : ℕ) : Type 0 where
+  pub front : i ≡ m + length (until ink (drop m s))
+  pub sign : neg ≡ eqb (getD s i 0) 45
+  pub start : k ≡ if neg then i + 1 else i
+  pub digits : Running p s k j n
+  pub back : e ≡ j + length (until ink (drop j s))
+
+module _ {p : ℕ → Bool} (q : Quiet p) {s : Text} {m i : ℕ} {neg : Bool} {k j n e : ℕ} (g : Gone p s m i neg k j n e) where
+  signed-rest : until p (drop i s) ≡ if neg then 45 ∷ until p (drop k s) else until p (drop k s)
+  signed-rest = by neg (g .sign) (g .start)
+    where
+      by : (d : Bool) → d ≡ eqb (getD s i 0) 45 → k ≡ (if d then i + 1 else i) → until p (drop i s) ≡ if d then 45 ∷ until p (drop k s) else until p (drop k s)
+      by true v z = behind p s i (eqb-true (getD s i 0) 45 (sym v)) (omega arith) (q .on-minus) ∙ ap (λ (l : ℕ). 45 ∷ until p (drop l s)) (sym z)
+      by false v z = ap (λ (l : ℕ). until p (drop l s)) (sym z)
+
+  signed-len : i + length (until p (drop i s)) ≡ k + length (until p (drop k s))
+  signed-len = by neg (g .start) signed-rest
+    where
+      by : (d : Bool) → k ≡ (if d then i + 1 else i) → until p (drop i s) ≡ (if d then 45 ∷ until p (drop k s) else until p (drop k s))
+          → i + length (until p (drop i s)) ≡ k + length (until p (drop k s))
+      by true z v = let l = ap length v in omega arith
+      by false z v = let l = ap length v in omega arith
+
+  -- nothing that passes has been passed over
+  pub gone-len : m + length (until p (drop m s)) ≡ e + length (until p (drop e s))
+  gone-len = white-len q s m (g .front) ∙ signed-len ∙ g .digits .len ∙ white-len q s j (g .back)
+
+  -- the part ends at e, and has digits
+  module _ (h : p (getD s e 0) ≡ true) (z : k < j) where
+    pub gone-end : e ≡ m + length (until p (drop m s))
+    gone-end = let l = ap length (until-here p s e h) in let v = gone-len in omega arith
+
+    some-digit : 48 ≤ getD (drop k s) 0 0
+    some-digit = rw (getD-drop k s 0 0, add-zero) (g .digits .lead (λ v. omega arith))
+
+    gone-number : number (less-trailing white (until p (drop k s))) ≡ some n
+    gone-number =
+        first-kept (drop k s) (let l = g .digits .len in omega arith) some-digit
+        ∙ g .digits .trimmed ∙ ap (number-from n) (white-all q s j (g .back) h)
+      where
+        first-kept : (t : Text) → 0 < length (until p t) → 48 ≤ getD t 0 0 → number (less-trailing white (until p t)) ≡ number-from 0 (less-trailing white (until p t))
+        first-kept [] l v = let f : ⊥ = omega arith in absurd f
+        first-kept (b ∷ t) l v = by (p b) l
+          where
+            by : (d : Bool) → 0 < length (if d then [] else b ∷ until p t)
+                → number (less-trailing white (if d then [] else b ∷ until p t)) ≡ number-from 0 (less-trailing white (if d then [] else b ∷ until p t))
+            by true l = let f : ⊥ = omega arith in absurd f
+            by false l = rw (kept b (less-trailing white (until p t)) (black b (omega arith)))
+
+    pub gone-numeral : (w : ℕ) → n ≤ 2 ^ (w - 1) - 1 → some (if neg then minus n else pos n) ≡ numeral w (trim (until p (drop m s)))
+    gone-numeral w l = sym (ap (numeral w) (white-trim q s m (g .front)) ∙ ap (λ (t : Text). numeral w (trim t)) signed-rest ∙ by neg)
+      where
+        by : (d : Bool) → numeral w (trim (if d then 45 ∷ until p (drop k s) else until p (drop k s))) ≡ some (if d then minus n else pos n)
+        by true = behind-minus w (until p (drop k s)) ∙ ap (at-most (2 ^ (w - 1)) minus) gone-number ∙ rw (le-leb n (2 ^ (w - 1)) (omega arith))
+        by false = bare w p (drop k s) some-digit ∙ ap (at-most (2 ^ (w - 1) - 1) pos) gone-number ∙ rw (le-leb n (2 ^ (w - 1) - 1) l)
 
 -- ── a part that is sought first: its k bytes ──
 

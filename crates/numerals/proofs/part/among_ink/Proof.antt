@@ -1,7 +1,6 @@
 -- `among_ink` meets its contract: j bytes of the block have been looked at.
 use Rattle.lexis.proofs.Passing as L
-use Rattle.lexis.specs.Parts.{some-of}
-use Rattle.numerals.specs.Parts.{ink}
+use Rattle.lexis.specs.Text.{ink, some-of}
 use lib.ListN.{length, take, drop, getD}
 use Prim.Native.Nat.{ℕ, _+_, _-_, _≤_}
 use native.Mathlib.Omega.{arith}

@@ -1,0 +1,56 @@
+-- The entry up to the next structural byte, and the entries between separators up to another one.
+use Prim.Native.Nat.{ℕ, _+_, _≤_}
+use Prim.Native.Char.{code}
+use mathlib.Core.Bool.{Bool, true, false, _||_, _&&_, not}
+use mathlib.Core.List as L
+use mathlib.Core.List.{List, [], _∷_}
+use mathlib.Core.Path.{_≡_}
+use lib.Dec.{leb, eqb}
+use lib.IntN.{ℤ}
+use lib.ListN.{length, drop, set}
+use Rattle.lexis.specs.Text.{Text, bytes, some-of, until, split}
+use Rattle.meaning.specs.Parts.{last, front}
+use Rattle.meaning.specs.Found.{Entry, read, fell, value, fallen}
+
+-- a structural byte: no entry that can be read has one
+unfoldable pub stop : ℕ → Bool
+stop c = some-of (eqb c) (bytes "x,()[]<>#_=!nz") || leb 128 c
+
+-- an entry as its value and how many fell back: none or one
+abbrev pub told : Entry → ℤ × ℕ
+told (read z) = (z, 0)
+told (fell z) = (z, 1)
+
+-- ── entries between separators ──
+
+-- by `x`, or by commas
+abbrev pub sep : Bool → ℕ
+sep true = code "x"
+sep false = code ","
+
+-- a structural byte other than the separator
+abbrev pub other : Bool → ℕ → Bool
+other x c = stop c && not (eqb c (sep x))
+
+-- the entries with their separators: what stands before the next other structural byte
+abbrev pub hole : Bool → Text → Text
+hole x t = until (other x) t
+
+abbrev pub parts : Bool → Text → List Text
+parts x t = split (sep x) (hole x t)
+
+-- l with the values laid over it from the place k on; past its end there is no place
+abbrev pub lay : List ℤ → ℕ → List ℤ → List ℤ
+lay l k [] = l
+lay l k (z ∷ zs) = lay (set l k z) (k + 1) zs
+
+-- what stands from `from` on in the text: the entries before the last are laid over l, the last is told
+pub record Fore (f : Text → Entry) (x : Bool) (s : Text) (from : ℕ) (l l′ : List ℤ) (len fell start end : ℕ) (e : ℤ × ℕ) : Type 0 where
+  pub values : l′ ≡ lay l 0 (L.map (λ p. value (f p)) (front (parts x (drop from s))))
+  pub count : len ≡ length (front (parts x (drop from s)))
+  pub odd : fell ≡ fallen (L.map f (front (parts x (drop from s))))
+  pub entry : e ≡ told (f (last (parts x (drop from s))))
+  pub few : len ≤ start
+  pub fewer : fell ≤ len
+  pub begins : start + length (last (parts x (drop from s))) ≡ end
+  pub ends : end ≡ from + length (hole x (drop from s))
