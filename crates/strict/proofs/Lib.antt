@@ -17,3 +17,4 @@ pub mod BridgeViews
 pub mod BridgeWhole
 pub mod Judging
 pub mod Unique
+pub mod Loosely

@@ -7,3 +7,4 @@ pub mod Inner
 pub mod Views
 pub mod Whole
 pub mod Plain
+pub mod Loose

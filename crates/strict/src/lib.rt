@@ -4,6 +4,7 @@ mod heads;
 mod inner;
 mod judge;
 mod list;
+mod loose;
 mod middles;
 mod names;
 mod number;
