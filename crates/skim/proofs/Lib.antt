@@ -1,0 +1,11 @@
+pub mod Steps
+pub mod Holes
+pub mod Dims
+pub mod Pointed
+pub mod Inside
+pub mod Sights
+pub mod Shown
+pub mod Viewed
+pub mod Walked
+pub mod Right
+pub mod Examples
