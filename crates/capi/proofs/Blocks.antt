@@ -13,7 +13,7 @@ use Rattle.lexis.specs.Text.{Text, if_then_else_}
 use Rattle.meaning.specs.Ordinary.{refused}
 use Rattle.meaning.specs.Refusals as R
 use Rattle.meaning.specs.declared.Refusal.the-variants.{NotNormal}
-use Rattle.capi.specs.Abi.{in-numbers}
+use Rattle.numbers.specs.Numbers.{in-numbers}
 use Rattle.meaning.specs.declared.Reading.{Reading}
 use Rattle.collector.specs.declared.Collector.{Collector}
 use Rattle.collector.specs.declared.Fed.{Fed}

@@ -18,7 +18,7 @@ use Rattle.collector.specs.Collecting.{in-order, fresh, fed}
 use Rattle.collector.specs.Parts.{of-parts}
 use Rattle.collector.proofs.Order as L
 use Rattle.collector.proofs.Pieces as P
-use Rattle.capi.specs.Abi.{flag-number}
+use Rattle.numbers.specs.Numbers.{flag-number}
 use Rattle.capi.specs.Block.{formed, of-block, last-bytes, to-block, lent, fed-block, read-block, ended-block}
 
 flag-back : (o : Bool) → eqb (flag-number o) 1 ≡ o

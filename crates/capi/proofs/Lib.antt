@@ -1,6 +1,4 @@
-pub mod Numbers
-pub mod Records
-pub mod Back
+pub mod Answers
 pub mod Unique
 pub mod Blocks
 pub mod Fragments

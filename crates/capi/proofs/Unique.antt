@@ -15,10 +15,11 @@ use denote.Triple.Clauses.{AtExit}
 use Rattle.lexis.proofs.Unique.{One}
 use Rattle.writer.proofs.Unique.{Alike}
 use Rattle.grammar.proofs.Answer.{one-answer}
-use Rattle.capi.specs.Abi.{in-numbers, outcome, write-numbers}
+use Rattle.numbers.specs.Numbers.{in-numbers}
+use Rattle.capi.specs.Abi.{outcome, write-numbers}
 use Prim.Native.Nat.{ℕ}
 use Rattle.lexis.specs.Text.{Text}
-use Rattle.capi.specs.declared.TypetextReading.{TypetextReading}
+use Rattle.numbers.specs.declared.TypetextReading.{TypetextReading}
 use Rattle.capi.proofs.collect.typetext_feed.Reads as typetext-feed
 use Rattle.capi.proofs.collect.typetext_end.Reads as typetext-end
 use Rattle.capi.proofs.count.typetext_next_row.Reads as typetext-next-row

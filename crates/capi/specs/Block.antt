@@ -13,7 +13,7 @@ use Rattle.meaning.specs.declared.Reading.{Reading}
 use Rattle.meaning.specs.declared.Refusal.the-variants.{NotNormal}
 use Rattle.collector.specs.declared.Collector.{Collector}
 use Rattle.collector.specs.Collecting.{in-order, fresh, fed, answered}
-use Rattle.capi.specs.Abi.{flag-number}
+use Rattle.numbers.specs.Numbers.{flag-number}
 
 -- a block of the right size, with a mark that is one
 abbrev pub formed : ℕ → Text → Bool

@@ -4,7 +4,7 @@ use Rattle.lexis.specs.Text.{Text}
 use Rattle.sheet.specs.Sheet.{number, answered}
 use Rattle.sheet.specs.declared.Cut.{Cut}
 use Rattle.sheet.specs.declared.sums.Totals.{Totals}
-use Rattle.capi.specs.Abi.{flag-number}
+use Rattle.numbers.specs.Numbers.{flag-number}
 use Rattle.capi.specs.declared.count.TypetextRow.{TypetextRow}
 use Rattle.capi.specs.declared.count.TypetextTotals.{TypetextTotals}
 

@@ -1,16 +1,16 @@
 // The collector's C face: the collector lies in a block of bytes that the caller lends (docs/ABI.md).
-use crate::TypetextReading;
-use crate::flag_number;
-use crate::in_numbers;
 use collector::SIZE;
 use meaning::Reading;
 use meaning::Refusal;
 use meaning::refuse;
+use numbers::TypetextReading;
+use numbers::flag_number;
+use numbers::in_numbers;
 ghost use Prim.Native.Nat.{_+_, _*_, _≤_};
 ghost use mathlib.Core.List.{_++_};
 ghost use mathlib.Core.Path.{_≡_};
 ghost use lib.ListN.{length, take};
-ghost use Rattle.capi.specs.Abi.{in-numbers};
+ghost use Rattle.numbers.specs.Numbers.{in-numbers};
 ghost use Rattle.capi.specs.Block.{formed, Formed, last-bytes, lent, feed-number, fed-block, read-block, ended-block};
 
 // Whether a block has the right size, and a mark that is one.

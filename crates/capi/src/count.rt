@@ -1,5 +1,5 @@
 // A sheet's C face: its totals, and where the next row lies (docs/ABI.md).
-use crate::flag_number;
+use numbers::flag_number;
 use sheet::LIMIT;
 use sheet::Totals;
 ghost use mathlib.Core.Path.{_≡_};

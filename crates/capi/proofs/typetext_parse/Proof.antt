@@ -1,7 +1,7 @@
 -- The reading in numbers is that of what the ordinary reader answers.
 use mathlib.Core.Path.{ap, _∙_}
 use borrow.Author.Needs.{needs}
-use Rattle.capi.specs.Abi.{in-numbers}
+use Rattle.numbers.specs.Numbers.{in-numbers}
 use Rattle.capi.proofs.typetext_parse.Statement.{statement}
 use Rattle.capi.proofs.typetext_parse.Tie as tie
 

@@ -3,7 +3,7 @@ use borrow.Author.Needs.{needs}
 use native.Mathlib.Omega.{arith}
 use borrow.Author.Tests.{not-true, not-false}
 use mathlib.Core.Path.{refl, sym, ap, _∙_}
-use Rattle.capi.specs.Abi.{in-numbers}
+use Rattle.numbers.specs.Numbers.{in-numbers}
 use Rattle.capi.proofs.Blocks as L
 use Rattle.capi.proofs.collect.typetext_end.Statement.{statement}
 use Rattle.capi.proofs.collect.typetext_end.Tie as tie

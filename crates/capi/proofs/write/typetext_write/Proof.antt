@@ -42,10 +42,10 @@ use denote.Triple.Table.{entered, cited}
 use denote.Triple.Walked.{says, Stays, stay-none-ref, gave-slice, walkOf, goes-none-ref, goes-gave-slice, Walks, ends-at, walked, walk-meets}
 use denote.Exit.{yes}
 use Rattle.capi.specs.Abi.{outcome, write-numbers}
-use Rattle.capi.specs.declared.write.TypetextRecord.{TypetextRecord}
+use Rattle.numbers.specs.declared.TypetextRecord.{TypetextRecord}
 use Rattle.capi.specs.declared.write.TypetextWritten.{TypetextWritten}
-use Rattle.capi.proofs.write.TypetextRecord as T
-use Rattle.capi.proofs.write.TypetextRecord.Laws as T′
+use Rattle.numbers.proofs.TypetextRecord as T
+use Rattle.numbers.proofs.TypetextRecord.Laws as T′
 use Rattle.capi.proofs.write.TypetextWritten as U
 use Rattle.capi.proofs.write.TypetextWritten.Laws as U′
 use Rattle.capi.proofs.write.write_numbers as inner

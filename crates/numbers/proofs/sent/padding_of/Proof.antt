@@ -1,8 +1,8 @@
 use mathlib.Core.Path.{refl}
-use Rattle.capi.specs.Abi.{paddings}
-use Rattle.capi.proofs.Numbers.{hit, last, passed}
-use Rattle.capi.proofs.write.padding_of.Statement.{statement}
-use Rattle.capi.proofs.write.padding_of.Tie as tie
+use Rattle.numbers.specs.Numbers.{paddings}
+use Rattle.numbers.proofs.Numbers.{hit, last, passed}
+use Rattle.numbers.proofs.sent.padding_of.Statement.{statement}
+use Rattle.numbers.proofs.sent.padding_of.Tie as tie
 
 pub padding-of-spec : {M : Type 1} → statement M
 padding-of-spec =

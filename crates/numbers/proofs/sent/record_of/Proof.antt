@@ -2,9 +2,9 @@ use mathlib.Core.Path.{_≡_}
 use mir.Syntax.{w32}
 use mir.Val.{toZ, ofZ}
 use borrow.Author.Needs.{needs}
-use Rattle.capi.proofs.Records.{record-value}
-use Rattle.capi.proofs.write.record_of.Statement.{statement}
-use Rattle.capi.proofs.write.record_of.Tie as tie
+use Rattle.numbers.proofs.Records.{record-value}
+use Rattle.numbers.proofs.sent.record_of.Statement.{statement}
+use Rattle.numbers.proofs.sent.record_of.Tie as tie
 
 returns : tie.Need-returns
 returns c =

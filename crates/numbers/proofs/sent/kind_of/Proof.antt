@@ -1,8 +1,8 @@
 use mathlib.Core.Path.{refl}
-use Rattle.capi.specs.Abi.{kinds}
-use Rattle.capi.proofs.Numbers.{hit, last, passed}
-use Rattle.capi.proofs.write.kind_of.Statement.{statement}
-use Rattle.capi.proofs.write.kind_of.Tie as tie
+use Rattle.numbers.specs.Numbers.{kinds}
+use Rattle.numbers.proofs.Numbers.{hit, last, passed}
+use Rattle.numbers.proofs.sent.kind_of.Statement.{statement}
+use Rattle.numbers.proofs.sent.kind_of.Tie as tie
 
 pub kind-of-spec : {M : Type 1} → statement M
 kind-of-spec =

@@ -1,7 +1,7 @@
-use Rattle.capi.specs.Abi.{in-numbers}
+use Rattle.numbers.specs.Numbers.{in-numbers}
 use borrow.Author.Needs.{needs}
-use Rattle.capi.proofs.in_numbers.Statement.{statement}
-use Rattle.capi.proofs.in_numbers.Tie as tie
+use Rattle.numbers.proofs.in_numbers.Statement.{statement}
+use Rattle.numbers.proofs.in_numbers.Tie as tie
 
 returns : tie.Need-returns
 unfolding in-numbers

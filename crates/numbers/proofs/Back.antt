@@ -14,9 +14,9 @@ use Rattle.meaning.specs.declared.Padding.{Padding}
 use Rattle.meaning.specs.declared.Padding.the-variants.{Absent, Zero, NegZero, Nan, PosInf, NegInf}
 use Rattle.meaning.specs.declared.Reading.{Reading}
 use Rattle.meaning.specs.declared.Record.{Record}
-use Rattle.capi.specs.declared.write.TypetextRecord.{TypetextRecord}
-use Rattle.capi.specs.Abi.{kind-number, scalar-number, padding-number, flag-number, nth, kinds, scalars, paddings, flags, kind-of, scalar-of, padding-of, flag-of, in-numbers, record-numbers, of-numbers}
-use Rattle.capi.proofs.Records.{five, built}
+use Rattle.numbers.specs.declared.TypetextRecord.{TypetextRecord}
+use Rattle.numbers.specs.Numbers.{kind-number, scalar-number, padding-number, flag-number, nth, kinds, scalars, paddings, flags, kind-of, scalar-of, padding-of, flag-of, in-numbers, record-numbers, of-numbers}
+use Rattle.numbers.proofs.Records.{five, built}
 
 kind-back : (k : Kind) → kind-of (kind-number k) ≡ some k
 kind-back K.Scalar = refl

@@ -1,8 +1,8 @@
 use mathlib.Core.Path.{refl}
-use Rattle.capi.specs.Abi.{scalars}
-use Rattle.capi.proofs.Numbers.{hit, last, passed}
-use Rattle.capi.proofs.write.scalar_of.Statement.{statement}
-use Rattle.capi.proofs.write.scalar_of.Tie as tie
+use Rattle.numbers.specs.Numbers.{scalars}
+use Rattle.numbers.proofs.Numbers.{hit, last, passed}
+use Rattle.numbers.proofs.sent.scalar_of.Statement.{statement}
+use Rattle.numbers.proofs.sent.scalar_of.Tie as tie
 
 pub scalar-of-spec : {M : Type 1} → statement M
 scalar-of-spec =

@@ -9,7 +9,7 @@ use mathlib.Core.Path.{_≡_, refl, sym, subst, _∙_}
 use lib.Dec.{eqb, ltb, leb·suc-suc}
 use lib.ListN.{length}
 use borrow.Author.Tests.{eqb-true, eqb-false, lt-ltb, le-ltb}
-use Rattle.capi.specs.Abi.{nth, given, Value}
+use Rattle.numbers.specs.Numbers.{nth, given, Value}
 
 module _ {A : Type 0} where
   pub beyond : (xs : List A) (n : ℕ) → length xs ≤ n → nth xs n ≡ none

@@ -1,22 +1,18 @@
--- Records from their numbers: whether there is one, which, and what the writer then answers.
+-- Records from their numbers: whether there is one, and which.
 use Prim.Native.Nat.{ℕ, zero, suc}
 use mathlib.Core.Bool.{Bool, true, false, _&&_, true≢false, false≢true}
 use mathlib.Core.Option.{Option, none, some}
 use mathlib.Core.Path.{_≡_, refl, sym, ap, _∙_}
 use lib.Dec.{eqb, ltb}
-use Rattle.lexis.specs.Text.{Text}
 use Rattle.scalars.specs.declared.scalar.Scalar.{Scalar}
 use Rattle.meaning.specs.declared.Kind.{Kind}
 use Rattle.meaning.specs.declared.Padding.{Padding}
 use Rattle.meaning.specs.declared.Record.{Record}
-use Rattle.meaning.specs.declared.Refusal.the-variants.{NotNormal}
-use Rattle.meaning.specs.declared.Written.{Written}
-use Rattle.meaning.specs.Written as W
-use Rattle.meaning.specs.Written.{_>>=_, writing}
-use Rattle.capi.specs.declared.write.TypetextRecord.{TypetextRecord}
-use Rattle.capi.specs.declared.write.TypetextWritten.{TypetextWritten}
-use Rattle.capi.specs.Abi.{kinds, scalars, paddings, flags, kind-of, scalar-of, padding-of, flag-of, of-numbers, Outcome, outcome, answer-numbers, outcome-numbers, write-given, write-numbers, given, Value}
-use Rattle.capi.proofs.Numbers.{within}
+use Rattle.meaning.specs.Found.{flat, token}
+use Rattle.meaning.specs.Written.{_>>=_}
+use Rattle.numbers.specs.declared.TypetextRecord.{TypetextRecord}
+use Rattle.numbers.specs.Numbers.{kinds, scalars, paddings, flags, kind-of, scalar-of, padding-of, flag-of, of-numbers, sent, given, Value}
+use Rattle.numbers.proofs.Numbers.{within}
 
 -- five answers together
 abbrev pub Five : Type 0
@@ -77,20 +73,12 @@ pub record-value : (n : TypetextRecord) (k : Kind) (e : Scalar) (p : Padding) (f
 unfolding of-numbers
 record-value n = five-value (built n) (kind-of (n .kind)) (scalar-of (n .element)) (padding-of (n .padding)) (flag-of (n .pointer)) (flag-of (n .attribute))
 
-refused-as : (o : Option Record) (room : Text) → given o ≡ false → write-given o room ≡ W.refused NotNormal room
-refused-as none room h = refl
-refused-as (some r) room h = absurd (true≢false h)
+-- ── the answer ──
 
-written-as : (o : Option Record) (r : Record) (room : Text) → given o ≡ true → Value o r → writing 8 r room ≡ write-given o room
-written-as none r room h v = absurd (false≢true h)
-written-as (some a) r room h v = ap (λ (r : Record). writing 8 r room) v
+pub no-record : (o : Option Record) (r : Record) → given o ≡ false → r ≡ flat 8 token → record { known = false; value = r } ≡ sent o
+no-record none r h e = ap (λ (v : Record). record { known = false; value = v }) e
+no-record (some a) r h e = absurd (true≢false h)
 
--- ── the writer's answer ──
-
-pub unknown-refused : (n : TypetextRecord) (room : Text) → given (of-numbers n) ≡ false → outcome (record { len = 0; refusal = 6 }) room ≡ write-numbers n room
-unfolding write-numbers
-unknown-refused n room h = sym (ap outcome-numbers (refused-as (of-numbers n) room h))
-
-pub known-written : (n : TypetextRecord) (r : Record) (w : Written) (room left : Text) → given (of-numbers n) ≡ true → Value (of-numbers n) r → W.outcome w left ≡ writing 8 r room → outcome (answer-numbers w) left ≡ write-numbers n room
-unfolding write-numbers
-known-written n r w room left h v e = ap outcome-numbers (e ∙ written-as (of-numbers n) r room h v)
+pub the-record : (o : Option Record) (r : Record) → given o ≡ true → Value o r → record { known = true; value = r } ≡ sent o
+the-record none r h v = absurd (false≢true h)
+the-record (some a) r h v = ap (λ (v : Record). record { known = true; value = v }) v

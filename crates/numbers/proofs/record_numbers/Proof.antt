@@ -1,10 +1,10 @@
 use mathlib.Core.Path.{_≡_}
 use mir.Syntax.{w32}
 use mir.Val.{toZ, ofZ}
-use Rattle.capi.specs.Abi.{record-numbers}
+use Rattle.numbers.specs.Numbers.{record-numbers}
 use borrow.Author.Needs.{needs}
-use Rattle.capi.proofs.record_numbers.Statement.{statement}
-use Rattle.capi.proofs.record_numbers.Tie as tie
+use Rattle.numbers.proofs.record_numbers.Statement.{statement}
+use Rattle.numbers.proofs.record_numbers.Tie as tie
 
 returns : tie.Need-returns
 unfolding record-numbers

@@ -1,6 +1,0 @@
-use Rattle.capi.proofs.Records.{flag-value}
-use Rattle.capi.proofs.write.flag_of.Statement.{statement}
-use Rattle.capi.proofs.write.flag_of.Tie as tie
-
-pub flag-of-spec : {M : Type 1} → statement M
-flag-of-spec = tie.close (tie.spec (λ c. flag-value (c .args .n)))

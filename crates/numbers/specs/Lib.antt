@@ -1,0 +1,2 @@
+-- Numbers for C.
+pub mod Numbers
