@@ -4,7 +4,6 @@ use meaning::Reading;
 use meaning::Refusal;
 use meaning::refuse;
 use numbers::TypetextReading;
-use numbers::flag_number;
 use numbers::in_numbers;
 ghost use Prim.Native.Nat.{_+_, _*_, _≤_};
 ghost use mathlib.Core.List.{_++_};
@@ -37,7 +36,7 @@ fn store(block: &mut [u8], len: usize, over: bool)
 {
     block[SIZE] = (len / 256) as u8;
     block[SIZE + 1] = (len % 256) as u8;
-    block[SIZE + 2] = flag_number(over);
+    block[SIZE + 2] = over as u8;
 }
 
 // A piece, for a block that has the form.

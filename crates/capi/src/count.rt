@@ -1,5 +1,4 @@
 // A sheet's C face: its totals, and where the next row lies (docs/ABI.md).
-use numbers::flag_number;
 use sheet::LIMIT;
 use sheet::Totals;
 ghost use mathlib.Core.Path.{_≡_};
@@ -76,7 +75,7 @@ pub extern "C" fn typetext_next_row(sheet: &[u8], place: usize) -> TypetextRow
         first: c.first,
         end: c.end,
         next: c.next,
-        found: flag_number(c.found),
+        found: c.found as u8,
         refusal: sheet_number(sheet),
     }
 }

@@ -9,7 +9,8 @@ use mathlib.Core.Path.{_≡_, refl, sym, subst, _∙_}
 use lib.Dec.{eqb, ltb, leb·suc-suc}
 use lib.ListN.{length}
 use borrow.Author.Tests.{eqb-true, eqb-false, lt-ltb, le-ltb}
-use Rattle.numbers.specs.Numbers.{nth, given, Value}
+use mir.Val.{boolByte}
+use Rattle.numbers.specs.Numbers.{flag-number, nth, given, Value}
 
 module _ {A : Type 0} where
   pub beyond : (xs : List A) (n : ℕ) → length xs ≤ n → nth xs n ≡ none
@@ -44,3 +45,8 @@ passed n (suc k) (h, q) =
     let i = passed n k h in
     let d : n ≡ k → ⊥ = q in
     omega (arith, i, d)
+
+-- a flag's byte, as a cast makes it, is its number
+pub flag-byte : (b : Bool) → boolByte b ≡ flag-number b
+flag-byte true = refl
+flag-byte false = refl

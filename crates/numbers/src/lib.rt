@@ -97,10 +97,10 @@ fn padding_number(p: Padding) -> u8
     }
 }
 
-pub fn flag_number(b: bool) -> u8
+fn flag_number(b: bool) -> u8
     ensures { λ r. ⌜ r ≡ flag-number b ⌝ }
 {
-    if b { 1 } else { 0 }
+    b as u8
 }
 
 fn record_numbers(v: Record) -> TypetextRecord
