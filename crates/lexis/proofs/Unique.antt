@@ -32,6 +32,10 @@ module _ {K : Type 0} {D R S : K → Type 0} where
   abbrev pub Alike : {A : Type 0} → ((κs : K) → R κs → A) → ((κs : K) → D κs → R κs → S κs → Type 0) → Type 0
   Alike see Post = (κs : K) (a : D κs) (x y : R κs) (s t : S κs) → Post κs a x s → Post κs a y t → see κs x ≡ see κs y
 
+  -- it leaves one value of what is seen at exit of what was lent
+  abbrev pub Left : {A : Type 0} → ((κs : K) → S κs → A) → ((κs : K) → D κs → R κs → S κs → Type 0) → Type 0
+  Left see Post = (κs : K) (a : D κs) (x y : R κs) (s t : S κs) → Post κs a x s → Post κs a y t → see κs s ≡ see κs t
+
 -- ── answers that are stated as they are ──
 
 pub begins-one : One begins.Post
