@@ -1,3 +1,4 @@
+-- A text that is walked once over its clauses is read as the ordinary definition reads it: each part of the walk is sound (`Steps`), the whole is a skeleton.
 pub mod Steps
 pub mod Holes
 pub mod Dims

@@ -18,3 +18,7 @@ pub mod BridgeWhole
 pub mod Judging
 pub mod Unique
 pub mod Loosely
+pub mod LooseViewing
+pub mod LooseInsides
+pub mod Skimming
+pub mod Bounding

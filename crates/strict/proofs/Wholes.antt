@@ -21,7 +21,7 @@ use Rattle.strict.proofs.Cursors.{hand}
 use Rattle.strict.proofs.Chain.{chain, last}
 use Rattle.strict.proofs.Insides.{lt-true, lt-false, next-yes, next-no}
 
-module _ (s : List ℕ) (e : ℕ) (k n : ℕ) (f g : List ℕ → Answer M.Entire) where
+module _ {A : Type 0} (s : List ℕ) (e : ℕ) (k n : ℕ) (f g : List ℕ → Answer A) where
   pub below : k < n → next s (λ r. cond (ltb k n) (f r) (g r)) e ≡ next s f e
   below h = next-yes s (ltb k n) f g e (lt-true k n h)
 

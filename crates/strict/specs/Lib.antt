@@ -8,3 +8,4 @@ pub mod Views
 pub mod Whole
 pub mod Plain
 pub mod Loose
+pub mod LooseParts

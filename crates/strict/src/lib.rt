@@ -5,11 +5,15 @@ mod inner;
 mod judge;
 mod list;
 mod loose;
+mod loose_inner;
+mod loose_view;
 mod middles;
 mod names;
 mod number;
+mod once;
 mod view;
 mod whole;
 mod words;
 
 pub use answer::parse_strict;
+pub use once::skim;
