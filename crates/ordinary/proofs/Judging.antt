@@ -7,16 +7,16 @@ use mathlib.Core.Path.{_≡_, refl, sym, ap, _∙_}
 use borrow.Author.Tests.{le-leb}
 use lib.Dec.{T, leb, leb→le}
 use lib.ListN.{length}
-use Rattle.lexis.specs.Text.{Text}
+use Rattle.lexis.specs.Text.{Text, trim, if_then_else_}
 use Rattle.meaning.specs.Found.{Found, flat, within}
 use Rattle.meaning.specs.Parts.{each}
 use Rattle.meaning.specs.Ordinary as O
 use Rattle.meaning.specs.Ordinary.{passes, high-from, refused, accepted, read-ascii, ordinary}
 use Rattle.meaning.specs.declared.Reading.{Reading}
-use Rattle.meaning.specs.declared.Refusal.the-variants.{TooLong}
+use Rattle.meaning.specs.declared.Refusal.the-variants.{TooLong, HighByte}
 use Rattle.meaning.specs.Refusals.{number}
-use Rattle.meaning.specs.Meant.{Read-ascii, Strictly}
-use Rattle.accord.proofs.Demands.{strict-ordinary}
+use Rattle.strict.specs.Loose.{whole, loosely, skimmed}
+use Rattle.skim.proofs.Right.{skim-taken}
 use Rattle.ordinary.specs.Shown.{Shown, shown, lengths-within, judged}
 
 -- ── the judgement ──
@@ -42,30 +42,21 @@ module _ (s : Text) where
   unfolding O.parse
   read-on h e j p = j ∙ ap judged p ∙ judged-is (passes (suc (length s)) s) ∙ sym (ap (read-ascii 8 s) e) ∙ short h
 
--- ── the strict reading first: what it doesn't refuse with 5 is answered alike; what it leaves open is short and ASCII ──
+-- ── the walk first: what it doesn't refuse with 5 is answered alike; what it leaves open is short ──
 
-module _ (s : Text) (r : Reading) where
-  pub settled : Strictly 8 1024 s r → (number (r .refusal) ≡ 5 → ⊥) → r ≡ ordinary 8 1024 s
-  settled p n = sym (strict-ordinary 8 1024 s r p (λ e. n (ap number e)))
+module _ (s : Text) {r : Reading} (e : r ≡ skimmed s) where
+  pub settled : (number (r .refusal) ≡ 5 → ⊥) → r ≡ ordinary 8 1024 s
+  settled n = e ∙ skim-taken s (λ k. n (ap (λ (x : Reading). number (x .refusal)) e ∙ ap number k))
 
-  pub left-short : Strictly 8 1024 s r → number (r .refusal) ≡ 5 → length s ≤ 1024
-  unfolding refused
-  left-short = by (leb (length s) 1024) (leb→le (length s) 1024)
+  pub left-short : number (r .refusal) ≡ 5 → length s ≤ 1024
+  unfolding skimmed refused
+  left-short n = by (leb (length s) 1024) (leb→le (length s) 1024) (sym (ap (λ (x : Reading). number (x .refusal)) e) ∙ n)
     where
-      by : (b : Bool) → (T b → length s ≤ 1024) → elim b as (λ _. Type 0) [ true ↦ Read-ascii 8 s (high-from 0 s) r | false ↦ r ≡ refused 8 TooLong 0 ]
-          → number (r .refusal) ≡ 5 → length s ≤ 1024
-      by true l h n = l tt
-      by false l h n = let e : number (r .refusal) ≡ 1 = ap (λ (x : Reading). number (x .refusal)) h in let f : ⊥ = omega arith in absurd f
+      by : (b : Bool) → (T b → length s ≤ 1024) → number ((if b then whole (loosely (trim s)) else refused 8 TooLong 0) .refusal) ≡ 5 → length s ≤ 1024
+      by true l m = l tt
+      by false l m = let f : ⊥ = omega arith in absurd f
 
-  pub left-ascii : Strictly 8 1024 s r → number (r .refusal) ≡ 5 → high-from 0 s ≡ none
-  unfolding refused
-  left-ascii = by (leb (length s) 1024)
-    where
-      low : (o : Option ℕ) → Read-ascii 8 s o r → number (r .refusal) ≡ 5 → o ≡ none
-      low (some i) h n = let e : number (r .refusal) ≡ 2 = ap (λ (x : Reading). number (x .refusal)) h in let f : ⊥ = omega arith in absurd f
-      low none h n = refl
+-- ── a high byte ──
 
-      by : (b : Bool) → elim b as (λ _. Type 0) [ true ↦ Read-ascii 8 s (high-from 0 s) r | false ↦ r ≡ refused 8 TooLong 0 ]
-          → number (r .refusal) ≡ 5 → high-from 0 s ≡ none
-      by true h n = low (high-from 0 s) h n
-      by false h n = let e : number (r .refusal) ≡ 1 = ap (λ (x : Reading). number (x .refusal)) h in let f : ⊥ = omega arith in absurd f
+pub high-at : (s : Text) {x : Reading} (i : ℕ) → length s ≤ 1024 → high-from 0 s ≡ some i → x ≡ refused 8 HighByte i → x ≡ ordinary 8 1024 s
+high-at s i h k e = e ∙ sym (ap (read-ascii 8 s) k) ∙ short s h

@@ -17,6 +17,7 @@ use meaning::Kind;
 use meaning::Reading;
 use meaning::Record;
 use meaning::Refusal;
+use meaning::first_high;
 use meaning::refuse;
 use scalars::Named;
 use scalars::Scalar;
@@ -206,15 +207,18 @@ fn judge(p: Parsed) -> Reading
     }
 }
 
-// What `Type::parse` returns, with the default counts; or the refusal 1, 2, 3 or 4, the first that applies. A strict form is read
-// in one walk; a text that the strict reader refuses with 5 is read as `Type::parse` reads it. Its other answers stand.
+// What `Type::parse` returns, with the default counts; or the refusal 1, 2, 3 or 4, the first that applies. A text with its clauses in
+// their usual places is read in one walk; what that refuses with 5 is read as `Type::parse` reads it. Its other answers stand.
 pub fn parse(text: &[u8]) -> Reading
     ensures { λ r. ⌜ r ≡ ordinary 8 1024 (now (text .entry)) ⌝ }
 {
-    let r = strict::parse_strict(text);
+    let r = strict::skim(text);
     let refusal = r.refusal;
     if refusal.number() != 5 {
         return r;
     }
-    judge(parse_marked(text))
+    match first_high(text) {
+        Found::At(place) => refuse(Refusal::HighByte, place),
+        Found::Nowhere => judge(parse_marked(text)),
+    }
 }

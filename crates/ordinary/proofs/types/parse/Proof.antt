@@ -1,6 +1,7 @@
--- `parse` meets its contract: what the strict reading settles is the answer; else the text is short and ASCII, and is read on.
-use mathlib.Core.Path.{sym, _∙_}
+-- `parse` meets its contract: what the walk settles is the answer; else the text is short, and is read on if it is ASCII.
+use mathlib.Core.Path.{sym, ap, _∙_}
 use borrow.Author.Needs.{needs}
+use Rattle.lexis.specs.Text.{spot}
 use Rattle.ordinary.proofs.Judging as L
 use Rattle.ordinary.proofs.types.parse.Statement.{statement}
 use Rattle.ordinary.proofs.types.parse.Tie as tie
@@ -11,11 +12,14 @@ parse-spec =
     (tie.spec
     (λ c κs. search needs)
     (λ c κs. search needs)
-    (λ c. let p = c .before .before in
-    L.settled (p .before .before .args .text .now) _ (p .parse-strict .ensures) (λ e. c .if1 .taken (c .before .number .ensures ∙ e)))
-    (λ c κs. let p = c .before .before in
-    L.left-short (p .before .before .args .text .now) _ (p .parse-strict .ensures) (sym (c .before .number .ensures) ∙ c .if1 .left))
+    (λ c. let p = c .before .before in L.settled (p .before .before .args .text .now) (p .skim .ensures) (λ e. c .if1 .taken (c .before .number .ensures ∙ e)))
     (λ c κs. search needs)
-    (λ c. let e = c .before .before in let p = e .before .before in let n = sym (e .before .number .ensures) ∙ e .if1 .left in
-    let s = p .before .before .args .text .now in
-    L.read-on s (L.left-short s _ (p .parse-strict .ensures) n) (L.left-ascii s _ (p .parse-strict .ensures) n) (c .judge .ensures) (c .before .parse-marked .ensures)))
+    (λ c. search needs)
+    (λ c κs. search needs)
+    (λ c. search needs)
+    (λ c κs. let f = c .before .before in let s = f .before .before .before .before .before .args .text .now in let h = L.left-short s (f .before .before .before .skim .ensures) (sym (f .before .before .number .ensures) ∙ f .before .if1 .left) in h)
+    (λ c κs. search needs)
+    (λ c. let f = c .before .before .before .before in let s = f .before .before .before .before .before .args .text .now in let h = L.left-short s (f .before .before .before .skim .ensures) (sym (f .before .before .number .ensures) ∙ f .before .if1 .left) in
+    L.high-at s _ h (sym (f .first-high .ensures) ∙ ap spot (c .before .before .place .given .1)) (c .refuse .ensures))
+    (λ c. let f = c .before .before .before .before in let s = f .before .before .before .before .before .args .text .now in let h = L.left-short s (f .before .before .before .skim .ensures) (sym (f .before .before .number .ensures) ∙ f .before .if1 .left) in
+    L.read-on s h (sym (f .first-high .ensures) ∙ ap spot (c .before .before .enum-told .given .1)) (c .judge .ensures) (c .before .parse-marked .ensures)))
