@@ -15,7 +15,7 @@ use Rattle.meaning.specs.Parts.{last, front}
 use Rattle.meaning.specs.Tile.{dimension}
 use Rattle.grammar.specs.Tests.{every, and-left, and-right, and-in}
 use Rattle.lists.specs.Laid.{Laid, laid}
-use Rattle.lists.specs.Next.{hole, other, parts}
+use Rattle.lists.specs.Next.{stop, hole, other, parts}
 use Rattle.accord.proofs.Num.{every-mono, every-++}
 use Rattle.accord.proofs.Forms.{Of, over, sans, with-x}
 use Rattle.accord.proofs.Shape.{run}
@@ -79,6 +79,7 @@ abbrev pub sans-x : ℕ → Bool
 sans-x = sans (120 ∷ [])
 
 pub xed-split : (ps : List Text) → T (plains ps) → (v : Text) → T (every sans-x v) → split 120 (xed ps ++ v) ≡ ps ++ (v ∷ [])
+unfolding stop
 xed-split [] h v n = split-none sans-x 120 tt v n
 xed-split (p ∷ ps) h v n =
     ap (split 120) (append-assoc p (120 ∷ xed ps) v) ∙ split-at plain 120 tt p (xed ps ++ v) (and-left (every plain p) (plains ps) h)

@@ -8,6 +8,7 @@ use Rattle.meaning.specs.declared.Refusal.the-variants.{Accepted, NotStrict, To
 use Rattle.meaning.specs.Ordinary.{refused}
 use Rattle.meaning.specs.Tile.{dimension, DYNAMIC}
 use Rattle.meaning.specs.Views.{small}
+use Rattle.lists.specs.Next.{stop}
 use Rattle.strict.specs.Words.{choose}
 use Rattle.strict.specs.Loose as W
 use Rattle.strict.specs.Loose.{skimmed}
@@ -19,14 +20,14 @@ tiles :
     L.map refusal
     (bytes "tile< f32 >" ∷ bytes " tile<2x f32>" ∷ bytes "tile<ax-3x007xf32>" ∷ bytes "tile<x f32>" ∷ bytes "tile<2x ?xptr<f32>>" ∷ bytes "tile<2x?x!cuda_tile.ptr< bool , #cuda_tile.ptr_attr<none>>>" ∷ [])
     ≡ Accepted ∷ Accepted ∷ Accepted ∷ Accepted ∷ Accepted ∷ Accepted ∷ []
-unfolding skimmed W.loosely W.tile W.element W.pointee W.answered choose dimension DYNAMIC refused
+unfolding stop skimmed W.loosely W.tile W.element W.pointee W.answered choose dimension DYNAMIC refused
 tiles = refl
 
 tensors :
     L.map refusal
     (bytes "tensor_view<2x3xf32>" ∷ bytes "tensor_view< f32, strides=[]>" ∷ bytes "tensor_view<2xf32, strides=[+1,a, , #cuda_tile.ptr_attr<none>>" ∷ bytes "ptr< f32 >" ∷ [])
     ≡ Accepted ∷ Accepted ∷ NotStrict ∷ Accepted ∷ []
-unfolding skimmed W.loosely W.tensor W.listed W.pointee W.answered choose dimension DYNAMIC refused
+unfolding stop skimmed W.loosely W.tensor W.listed W.pointee W.answered choose dimension DYNAMIC refused
 tensors = refl
 
 views :
@@ -37,5 +38,5 @@ views :
     bytes "strided_view<tile=(), tensor_view<f32, strides=[-]>>" ∷
     bytes "strided_view<tile=(1x1x1x1x1x1x1x1x1), tensor_view<f32>>" ∷ [])
     ≡ Accepted ∷ Accepted ∷ Accepted ∷ Accepted ∷ TooMany ∷ []
-unfolding skimmed W.loosely W.view W.travel W.mid W.sight W.ending W.tensor W.listed W.answered choose dimension small DYNAMIC refused
+unfolding stop skimmed W.loosely W.view W.travel W.mid W.sight W.ending W.tensor W.listed W.answered choose dimension small DYNAMIC refused
 views = refl

@@ -7,12 +7,12 @@ use mathlib.Core.List.{[], _∷_, _++_}
 use mathlib.Core.Path.{_≡_, refl, subst, sym, ap, _∙_}
 use lib.Dec.{T, eqb, leb, leb→le, eqb→eq, not-T}
 use lib.ListN.{length, drop, take-append-drop}
-use Rattle.lexis.specs.Text.{Text, bytes, white, until, split, less-leading, if_then_else_}
+use Rattle.lexis.specs.Text.{Text, bytes, white, some-of, until, split, less-leading, if_then_else_}
 use Rattle.lexis.proofs.Seeking.{until-take}
 use Rattle.meaning.specs.Found.{Entry, stands}
 use Rattle.grammar.specs.Tests.{every, and-right, and-in}
 use Rattle.lists.specs.Laid.{Laid, laid}
-use Rattle.lists.specs.Next.{one-of, stop, sep, other, hole}
+use Rattle.lists.specs.Next.{stop, sep, other, hole}
 use Rattle.accord.proofs.Num.{every-mono, every-++, or-cases, non}
 use Rattle.accord.proofs.Forms.{sans-all, loose, with-x, with-comma, with-both}
 use Rattle.strict.specs.Loose.{list}
@@ -34,7 +34,8 @@ kept-cases {X} x c = go (stop c) (eqb c (sep x))
     go false b h f g = f tt
 
 pub plain-low : (c : ℕ) → T (plain c) → T (ascii c)
-plain-low c = go (one-of c (bytes "x,()[]<>#_=!nz")) (leb 128 c)
+unfolding stop
+plain-low c = go (some-of (eqb c) (bytes "x,()[]<>#_=!nz")) (leb 128 c)
   where
     go : (a b : Bool) → T (not (a || b)) → T (not b)
     go true b h = absurd h
@@ -45,16 +46,20 @@ kept-low true c h = kept-cases true c h (plain-low c) (λ e. subst (λ (z : ℕ)
 kept-low false c h = kept-cases false c h (plain-low c) (λ e. subst (λ (z : ℕ). T (ascii z)) (sym (eqb→eq c 44 e)) tt)
 
 pub kept-both : (x : Bool) (c : ℕ) → T (kept x c) → T (with-both c)
+unfolding stop
 kept-both true c h = sans-all (kept true) (bytes "()[]<>#_=!nz") tt c h
 kept-both false c h = sans-all (kept false) (bytes "()[]<>#_=!nz") tt c h
 
 pub kept-comma : (c : ℕ) → T (kept false c) → T (with-comma c)
+unfolding stop
 kept-comma c h = sans-all (kept false) (bytes "x()[]<>#_=!nz") tt c h
 
 pub plain-loose : (c : ℕ) → T (plain c) → T (loose c)
+unfolding stop
 plain-loose c h = sans-all plain (bytes "x,()[]<>#_=!nz") tt c h
 
 pub plain-x : (c : ℕ) → T (plain c) → T (with-x c)
+unfolding stop
 plain-x c h = sans-all plain (bytes ",()[]<>#_=!nz") tt c h
 
 pub white-low : (c : ℕ) → T (white c) → T (ascii c)

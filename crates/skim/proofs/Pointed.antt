@@ -6,6 +6,7 @@ use mathlib.Core.List as L
 use mathlib.Core.List.{List, [], _∷_, _++_, append-assoc, append-nil}
 use mathlib.Core.Path.{_≡_, refl, sym, ap, _∙_}
 use lib.Dec.{T, eqb}
+use Rattle.lists.specs.Next.{stop}
 use Rattle.lexis.specs.Text.{Text, bytes, same, split, white, less-leading, less-trailing, unless-last, if_then_else_}
 use Rattle.numerals.specs.Numeral.{numeral}
 use Rattle.meaning.specs.Found.{Entry, read, fell, fallen}
@@ -99,6 +100,7 @@ keep-some c [] t h = absurd h
 keep-some c (x ∷ u) t h = refl
 
 part-nonx : (p : Text) → T (every plain p) → T (every (non (eqb 120)) p)
+unfolding stop
 part-nonx p h = every-mono plain (non (eqb 120)) (lacks plain 120 tt) p h
 
 back-parts : (ps : List Text) (p : Text) → T (plains (p ∷ ps)) → T (some-parts ps) → less-trailing (eqb 120) (xed (p ∷ ps)) ≡ p ++ xjoin ps
@@ -109,6 +111,7 @@ back-parts (q ∷ ps) p h n =
     ∙ ap (λ (l : Text). p ++ l) (keep-some 120 q (xjoin ps) (and-left (not (vacant q)) (some-parts ps) n))
 
 join-split : (ps : List Text) (p : Text) → T (plains (p ∷ ps)) → split 120 (p ++ xjoin ps) ≡ p ∷ ps
+unfolding stop
 join-split [] p h = ap (split 120) (append-nil p) ∙ split-none plain 120 tt p (and-left (every plain p) true h)
 join-split (q ∷ ps) p h = split-at plain 120 tt p (q ++ xjoin ps) (and-left (every plain p) (plains (q ∷ ps)) h)
     ∙ ap (λ (l : List Text). p ∷ l) (join-split ps q (and-right (every plain p) (plains (q ∷ ps)) h))
