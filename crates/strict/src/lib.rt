@@ -1,4 +1,4 @@
-// The strict reader: one cursor over the text, no step back. Each part answers a value and the place after it, or where it is stuck.
+// The strict reader, and the walk over loose texts (`once`): one cursor over the text, no step back. Each part answers a value and the place after it, or where it is stuck.
 mod answer;
 mod heads;
 mod inner;
