@@ -1,13 +1,14 @@
 -- On the text of every well-formed strict form the ordinary reading finds its meaning, and every count is zero: the form is a
 -- skeleton, and `Exact` reads its numerals back.
-use Prim.Native.Nat.{_+_}
-use mathlib.Core.Bool.{Bool, true, false, _&&_}
+use Prim.Native.Nat.{ℕ, _+_}
+use mathlib.Core.Bool.{Bool, true, false, _&&_, not}
 use mathlib.Core.List.{List, [], _∷_, map}
 use mathlib.Core.Option.{Option, some}
 use mathlib.Core.Path.{_≡_, refl, ap, _∙_}
 use lib.Dec.{T}
 use lib.ListN.{getD}
 use lib.IntN.{ℤ, pos}
+use Rattle.lexis.specs.Text.{bytes, white, less-trailing}
 use Rattle.scalars.specs.declared.scalar.Scalar.{Scalar}
 use Rattle.scalars.specs.declared.scalar.Scalar.the-variants.{I1}
 use Rattle.meaning.specs.declared.Kind.{Kind}
@@ -15,9 +16,9 @@ use Rattle.meaning.specs.declared.Kind.the-variants as K
 use Rattle.meaning.specs.declared.Padding.{Padding}
 use Rattle.meaning.specs.declared.Padding.the-variants.{Absent}
 use Rattle.meaning.specs.declared.Note.{Note}
-use Rattle.meaning.specs.Decimal.{size, in32}
+use Rattle.meaning.specs.Decimal.{decimal, size, in32}
 use Rattle.meaning.specs.Strict as Form
-use Rattle.meaning.specs.Strict.{values, scalarOf, entriesOf, Form, spell}
+use Rattle.meaning.specs.Strict.{_⊕_, cuda, values, scalarOf, entriesOf, Form, spell}
 use Rattle.meaning.specs.Meant.{Any, any, eachOf, viewOk, ok, mean, stridesOf, padsOf}
 use Rattle.meaning.specs.Parts.{each}
 use Rattle.meaning.specs.Found.{value, Clause, stands, unused, Found, unreadable, lacking, fallen, counts, made, plain, token, with-attribute}
@@ -26,10 +27,12 @@ use Rattle.meaning.specs.Tile.{tile-of, tensor-found}
 use Rattle.meaning.specs.Views as W
 use Rattle.meaning.specs.Ordinary.{parse}
 use Rattle.grammar.specs.Tests.{and-left, and-right}
+use Rattle.grammar.specs.Whole.{glue}
 use Rattle.accord.proofs.Forms as S
-use Rattle.accord.proofs.Names.{name-word}
+use Rattle.accord.proofs.Num.{vacant, every-mono, visible, visible-nonwhite, non, back-none}
+use Rattle.accord.proofs.Names.{name-word, word-class}
 use Rattle.accord.proofs.Lists.{exact, small-decimal}
-use Rattle.accord.proofs.Hole.{attach, itself, respelt}
+use Rattle.accord.proofs.Hole.{kept-some, attach, itself, respelt}
 use Rattle.accord.proofs.Skeleton.{found, skeleton-reads}
 use Rattle.accord.proofs.Exact.{list-of, decimal-of, loosened, spelt, tile-plain, tile-pointer, strides-found, tensor-read, tensor-exact, view-read, view-exact, given-read}
 
@@ -151,5 +154,26 @@ found-exact (Form.strided v c s d) h =
     (given-read c (and-right (viewOk v) (eachOf in32 (values c)) h2) i) unused (view-read v))))
     (view-shown K.Strided v (values d) (values c) [])
 
+-- ── no white byte at its end ──
+closed : (xs : List (List ℕ)) → less-trailing white (glue xs (bytes ">")) ≡ glue xs (bytes ">")
+closed [] = refl
+closed (x ∷ xs) = kept-some white (glue xs (bytes ">")) (some-left xs) (closed xs) x
+  where
+    some-left : (xs : List (List ℕ)) → T (not (vacant (glue xs (bytes ">"))))
+    some-left [] = tt
+    some-left ([] ∷ xs) = some-left xs
+    some-left ((c ∷ x) ∷ xs) = tt
+
+tight : (f : Form) → less-trailing white (spell f) ≡ spell f
+tight (Form.scalar n) = back-none white (Form.word n) (every-mono visible (non white) visible-nonwhite (Form.word n) (word-class visible tt n))
+tight (Form.token true) = refl
+tight (Form.token false) = refl
+tight (Form.ptr p) = closed (cuda (p .front) ∷ bytes "ptr<" ∷ Form.word (p .name) ∷ Form.mark (p .marked) ∷ [])
+tight (Form.tile b ds e) = closed (cuda b ∷ bytes "tile<" ∷ Form.dims ds ∷ Form.element e ∷ [])
+tight (Form.tensor b t) = closed (cuda b ∷ bytes "tensor_view<" ∷ Form.body t ∷ [])
+tight (Form.partition v c) = closed (cuda (v .front) ∷ bytes "partition_view<" ∷ Form.viewText v [] (Form.mapText c) ∷ [])
+tight (Form.gather v z) = closed (cuda (v .front) ∷ bytes "gather_scatter_view<" ∷ Form.viewText v [] (bytes "sparse_dim=" ⊕ decimal z) ∷ [])
+tight (Form.strided v c s d) = closed (cuda (v .front) ∷ bytes "strided_view<" ∷ Form.viewText v (Form.travelText c s) (Form.mapText d) ∷ [])
+
 pub agrees : (f : Form) → T (ok f) → each shown (parse (spell f)) ≡ some (sure (mean f))
-agrees f h = ap (each shown) (itself (respelt (spelt f) (skeleton-reads (loosened f)))) ∙ found-exact f h
+agrees f h = ap (each shown) (itself (respelt (spelt f) (skeleton-reads (loosened f))) (tight f)) ∙ found-exact f h

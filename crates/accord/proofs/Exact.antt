@@ -4,11 +4,11 @@ use native.Mathlib.Omega.{arith}
 use mathlib.Core.Bool.{Bool, true, false, _&&_, _||_, not}
 use mathlib.Core.List.{List, [], _∷_, _++_, map, append-nil}
 use mathlib.Core.Option.{Option, none, some}
-use mathlib.Core.Path.{_≡_, refl, subst, ap, _∙_}
+use mathlib.Core.Path.{_≡_, refl, subst, sym, ap, _∙_}
 use lib.Dec.{T, eqb, le→leb, eqb→eq}
 use lib.ListN.{length}
 use lib.IntN.{ℤ, pos, negsuc}
-use Rattle.lexis.specs.Text.{bytes, white, split, less-trailing, unless-last}
+use Rattle.lexis.specs.Text.{bytes, white, split}
 use Rattle.scalars.specs.Names.{scalar-name}
 use Rattle.meaning.specs.Decimal.{decimal, Dim, dynamic, known, dim, size, in64, in32}
 use Rattle.meaning.specs.Strict as Form
@@ -18,13 +18,13 @@ use Rattle.meaning.specs.Parts.{each, last, front}
 use Rattle.meaning.specs.Found.{Entry, Clause, stands, filled}
 use Rattle.meaning.specs.Tile.{dimension, dimensions, tile-of, before-pointer, Tensor, strides-of, tensor-of, tensor-parts}
 use Rattle.meaning.specs.Views as W
-use Rattle.grammar.specs.Tests.{every, and-left, and-right}
+use Rattle.grammar.specs.Tests.{every, and-left, and-right, and-in}
 use Rattle.accord.proofs.Shape.{In, run}
-use Rattle.accord.proofs.Bracket.{lacks}
-use Rattle.accord.proofs.Num.{or-left, vacant, every-mono, every-++, figure, figure-visible, decimal-figure, visible, visible-nonwhite, trim-none, non, front-none, back-past, digits-any, or-cases}
-use Rattle.accord.proofs.Lists.{exact, dim-figure, dims-split, split-at, split-none, last-snoc, front-snoc, sizes-dims, strides-read, list-read, entries-parts, listy, commas-class}
+use Rattle.accord.proofs.Num.{or-left, vacant, every-mono, every-++, figure, figure-visible, decimal-figure, visible, visible-nonwhite, trim-none, non, front-none, digits-any, or-cases}
+use Rattle.accord.proofs.Lists.{exact, dim-figure, last-snoc, front-snoc, sizes-dims, strides-read, list-read, entries-parts, listy, commas-class}
+use Rattle.accord.proofs.Dims.{xed, xed-split, solid, before-parts}
 use Rattle.accord.proofs.Names.{name-word, word-class}
-use Rattle.accord.proofs.Forms.{Of, over, sans, sans-all, loose, with-x, with-both, spaced, named, list-shape, strides, body, View, view, Travel, Ending}
+use Rattle.accord.proofs.Forms.{Of, over, nothing, sans, sans-all, loose, with-x, with-both, spaced, named, list-shape, strides, body, View, view, Travel, Ending}
 use Rattle.accord.proofs.Forms as S
 use Rattle.accord.proofs.Inner.{scalar-tile, ahead, pointer-tile, listing, strides-split}
 use Rattle.accord.proofs.Outer as O
@@ -52,20 +52,20 @@ xrest-class [] = tt
 xrest-class (z ∷ zs) = every-++ shapely (decimal z) (xrest zs) (figure-shapely (decimal z) (decimal-figure z)) (xrest-class zs)
 
 abbrev pub dims-of : List Dim → Of (run with-x)
-dims-of ds = without shapely (bytes ",()[]<>#_=!nz") (dims ds) tt (dims-class ds)
+dims-of ds = without shapely (bytes ",()[]<>#=!nz") (dims ds) tt (dims-class ds)
 
 abbrev pub strs-of : Commas Dim → Of list-shape
-strs-of c = without listy (bytes "x()[]<>#_=!nz") (commas dim c) tt (commas-class dim dim-figure c)
+strs-of c = without listy (bytes "x()[]<>#=!nz") (commas dim c) tt (commas-class dim dim-figure c)
 
 abbrev pub list-of : Commas ℤ → Of list-shape
-list-of c = without listy (bytes "x()[]<>#_=!nz") (commas decimal c) tt (commas-class decimal decimal-figure c)
+list-of c = without listy (bytes "x()[]<>#=!nz") (commas decimal c) tt (commas-class decimal decimal-figure c)
 
 abbrev pub decimal-of : ℤ → Of (run loose)
-decimal-of z = without figure (bytes "x,()[]<>#_=!nz") (decimal z) tt (decimal-figure z)
+decimal-of z = without figure (bytes "x,()[]<>#=!nz") (decimal z) tt (decimal-figure z)
 
 pub entries-in : (e : Entries) → In (run with-both) (entries e)
-entries-in (byX z zs) = without shapely (bytes "()[]<>#_=!nz") (decimal z ++ xrest zs) tt (every-++ shapely (decimal z) (xrest zs) (figure-shapely (decimal z) (decimal-figure z)) (xrest-class zs)) .is
-entries-in (byComma c) = without listy (bytes "()[]<>#_=!nz") (commas decimal c) tt (commas-class decimal decimal-figure c) .is
+entries-in (byX z zs) = without shapely (bytes "()[]<>#=!nz") (decimal z ++ xrest zs) tt (every-++ shapely (decimal z) (xrest zs) (figure-shapely (decimal z) (decimal-figure z)) (xrest-class zs)) .is
+entries-in (byComma c) = without listy (bytes "()[]<>#=!nz") (commas decimal c) tt (commas-class decimal decimal-figure c) .is
 
 abbrev pub entries-of : Entries → Of (run with-both)
 entries-of e = record { text = entries e; is = entries-in e }
@@ -98,13 +98,13 @@ loose-view v m e = record {
 abbrev pub loosened : Form → Skeleton
 loosened (Form.scalar n) = K.scalar n
 loosened (Form.token b) = K.token b
-loosened (Form.ptr p) = K.ptr (p .front) (name-of (p .name)) (p .marked)
-loosened (Form.tile b ds (Form.plain n)) = K.tile b (dims-of ds) (name-of n)
-loosened (Form.tile b ds (Form.pointer p)) = K.tile-ptr b (dims-of ds) (p .front) (name-of (p .name)) (p .marked)
-loosened (Form.tensor b t) = K.tensor b (loose-body t) (t .marked)
-loosened (Form.partition v c) = K.view (v .front) K.partition (loose-view v S.Travel.absent (S.Ending.map (v .space′) (list-of c))) (v .tensor .marked)
-loosened (Form.gather v z) = K.view (v .front) K.gather (loose-view v S.Travel.absent (S.Ending.sparse (v .space′) (decimal-of z))) (v .tensor .marked)
-loosened (Form.strided v c s d) = K.view (v .front) K.strided (loose-view v (S.Travel.given (list-of c) s) (S.Ending.map (v .space′) (list-of d))) (v .tensor .marked)
+loosened (Form.ptr p) = K.ptr (p .front) (name-of (p .name)) (p .marked) nothing
+loosened (Form.tile b ds (Form.plain n)) = K.tile b (dims-of ds) (name-of n) nothing
+loosened (Form.tile b ds (Form.pointer p)) = K.tile-ptr b (dims-of ds) (p .front) (name-of (p .name)) (p .marked) nothing
+loosened (Form.tensor b t) = K.tensor b (loose-body t) (t .marked) nothing
+loosened (Form.partition v c) = K.view (v .front) K.partition (loose-view v S.Travel.absent (S.Ending.map (v .space′) (list-of c))) (v .tensor .marked) nothing
+loosened (Form.gather v z) = K.view (v .front) K.gather (loose-view v S.Travel.absent (S.Ending.sparse (v .space′) (decimal-of z))) (v .tensor .marked) nothing
+loosened (Form.strided v c s d) = K.view (v .front) K.strided (loose-view v (S.Travel.given (list-of c) s) (S.Ending.map (v .space′) (list-of d))) (v .tensor .marked) nothing
 
 body-spelt : (t : Form.Tensor) → body (loose-body t) (Form.mark (t .marked)) ≡ Form.body t
 body-spelt t = go (t .strides)
@@ -131,8 +131,17 @@ spelt (Form.gather v z) = view-spelt v S.Travel.absent (S.Ending.sparse (v .spac
 spelt (Form.strided v c s d) = view-spelt v (S.Travel.given (list-of c) s) (S.Ending.map (v .space′) (list-of d)) (bytes "strided_view<")
 
 -- ── dimensions, and the name behind them ──
+xed-dims : (ds : List Dim) → xed (map dim ds) ≡ dims ds
+xed-dims [] = refl
+xed-dims (d ∷ ds) = ap (λ (t : List ℕ). dim d ++ (120 ∷ t)) (xed-dims ds)
+
+dims-figure : (ds : List Dim) → T (every (every figure) (map dim ds))
+dims-figure [] = tt
+dims-figure (d ∷ ds) = and-in (every figure (dim d)) (every (every figure) (map dim ds)) (dim-figure d) (dims-figure ds)
+
 dims-word : (ds : List Dim) (n : Name) → split 120 (dims ds ++ word n) ≡ map dim ds ++ (word n ∷ [])
-dims-word ds n = dims-split ds (non (eqb 120)) tt (word n) (word-class (non (eqb 120)) tt n)
+dims-word ds n = ap (λ (t : List ℕ). split 120 (t ++ word n)) (sym (xed-dims ds))
+    ∙ xed-split figure tt (map dim ds) (dims-figure ds) (non (eqb 120)) tt (word n) (word-class (non (eqb 120)) tt n)
 
 name-read : (ds : List Dim) (n : Name) → scalar-name (last (split 120 (dims ds ++ word n))) ≡ some (scalarOf n)
 name-read ds n = ap (λ (l : List (List ℕ)). scalar-name (last l)) (dims-word ds n) ∙ ap scalar-name (last-snoc (map dim ds) (word n)) ∙ name-word n
@@ -156,40 +165,19 @@ ahead-dims : (b : Bool) (ds : List Dim) → ahead b (dims ds) ≡ dims ds
 ahead-dims true ds = front-none white (dims ds) (every-mono visible (non white) visible-nonwhite (dims ds) (dims-visible ds))
 ahead-dims false ds = trim-none (dims ds) (dims-visible ds)
 
--- the dimensions parted by x
-abbrev xjoin : List Dim → List ℕ
-xjoin [] = []
-xjoin (d ∷ ds) = 120 ∷ (dim d ++ xjoin ds)
-
-dim-nonx : (d : Dim) → T (every (non (eqb 120)) (dim d))
-dim-nonx d = every-mono figure (non (eqb 120)) (lacks figure 120 tt) (dim d) (dim-figure d)
-
 dim-any : (d : Dim) → T (not (vacant (dim d)))
 dim-any dynamic = tt
 dim-any (known (pos n)) = digits-any n n
 dim-any (known (negsuc n)) = tt
 
-keep-some : (C : ℕ → Bool) (c : ℕ) (u t : List ℕ) → T (not (vacant u)) → unless-last C c (u ++ t) ≡ c ∷ (u ++ t)
-keep-some C c [] t h = absurd h
-keep-some C c (x ∷ u) t h = refl
-
-back-dims : (ds : List Dim) (d : Dim) → less-trailing (eqb 120) (dims (d ∷ ds)) ≡ dim d ++ xjoin ds
-back-dims [] d = back-past (eqb 120) (dim d) (120 ∷ []) (dim-nonx d)
-back-dims (e ∷ ds) d =
-    back-past (eqb 120) (dim d) (120 ∷ dims (e ∷ ds)) (dim-nonx d)
-    ∙ ap (λ (l : List ℕ). dim d ++ unless-last (eqb 120) 120 l) (back-dims ds e) ∙ ap (λ (l : List ℕ). dim d ++ l) (keep-some (eqb 120) 120 (dim e) (xjoin ds) (dim-any e))
-
-join-split : (ds : List Dim) (d : Dim) → split 120 (dim d ++ xjoin ds) ≡ map dim (d ∷ ds)
-join-split [] d = ap (split 120) (append-nil (dim d)) ∙ split-none figure 120 tt (dim d) (dim-figure d)
-join-split (e ∷ ds) d = split-at figure 120 tt (dim d) (dim e ++ xjoin ds) (dim-figure d) ∙ ap (λ (l : List (List ℕ)). dim d ∷ l) (join-split ds e)
-
-pointed-some : (u t : List ℕ) → T (not (vacant u)) → before-pointer (u ++ t) ≡ split 120 (less-trailing (eqb 120) (u ++ t))
-pointed-some [] t h = absurd h
-pointed-some (x ∷ u) t h = refl
+dims-solid : (ds : List Dim) → T (solid (map dim ds))
+dims-solid [] = tt
+dims-solid (d ∷ []) = dim-any d
+dims-solid (d ∷ e ∷ ds) = dims-solid (e ∷ ds)
 
 pointed-dims : (ds : List Dim) → before-pointer (dims ds) ≡ map dim ds
 pointed-dims [] = refl
-pointed-dims (d ∷ ds) = pointed-some (dim d) (120 ∷ dims ds) (dim-any d) ∙ ap (split 120) (back-dims ds d) ∙ join-split ds d
+pointed-dims (d ∷ ds) = ap before-pointer (sym (xed-dims (d ∷ ds))) ∙ before-parts figure tt (dim d) (map dim ds) (dims-figure (d ∷ ds)) (dims-solid ds)
 
 pub tile-pointer : (ds : List Dim) (b : Bool) (n : Name) → T (eachOf in64 ds) → pointer-tile b (dims ds) (word n) ≡ some (tile-of true (stands (exact (map size ds))) (scalarOf n))
 tile-pointer ds b n h =

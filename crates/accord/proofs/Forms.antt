@@ -1,5 +1,5 @@
 -- Skeletons: texts of the strict forms' make in which every list is any text over a wide class of bytes, a name may have white
--- space around it, and clauses may be absent. Here their parts: each part's text lies in its shape.
+-- space around it, clauses may be absent, and bytes may follow the closing bracket. Here their parts: each part's text lies in its shape.
 use Prim.Native.Nat.{ℕ, zero, suc}
 use mathlib.Core.Bool.{Bool, true, false, not}
 use mathlib.Core.List.{List, [], _∷_, _++_}
@@ -18,16 +18,20 @@ sans xs c = every (λ x. not (eqb x c)) xs
 
 -- white space, digits, signs, `?` and most letters
 abbrev pub loose : ℕ → Bool
-loose c = sans (bytes "x,()[]<>#_=!nz") c
+loose c = sans (bytes "x,()[]<>#=!nz") c
 
 abbrev pub with-x : ℕ → Bool
-with-x c = sans (bytes ",()[]<>#_=!nz") c
+with-x c = sans (bytes ",()[]<>#=!nz") c
 
 abbrev pub with-comma : ℕ → Bool
-with-comma c = sans (bytes "x()[]<>#_=!nz") c
+with-comma c = sans (bytes "x()[]<>#=!nz") c
 
 abbrev pub with-both : ℕ → Bool
-with-both c = sans (bytes "()[]<>#_=!nz") c
+with-both c = sans (bytes "()[]<>#=!nz") c
+
+-- no mark has such bytes alone
+abbrev pub markless : ℕ → Bool
+markless c = sans (bytes "#") c
 
 -- a class that lacks each of xs
 pub sans-all : (C : ℕ → Bool) (xs : List ℕ) → T (every (λ x. not (C x)) xs) → (c : ℕ) → T (C c) → T (sans xs c)
@@ -43,6 +47,9 @@ pub record Of (sh : Shape) : Type 0 where
 
 abbrev pub over : {C : ℕ → Bool} (t : List ℕ) → T (every C t) → Of (run C)
 over t h = record { text = t; is = all h }
+
+abbrev pub nothing : {C : ℕ → Bool} → Of (run C)
+nothing = over [] tt
 
 pub runs : {C : ℕ → Bool} {t : List ℕ} → In (run C) t → T (every C t)
 runs (all h) = h

@@ -1,5 +1,5 @@
--- A text with a place for the mark is read as the text without it: trimming takes nothing off, one pass takes the mark out, and
--- nothing else is changed but the attribute.
+-- What is trimmed to a text with a place for the mark is read as the text without it: trimming takes no more off, one pass takes the
+-- mark out, and nothing else is changed but the attribute.
 use Prim.Native.Nat.{ℕ, suc, _-_}
 use native.Mathlib.Omega.{arith}
 use mathlib.Core.Bool.{Bool, true, false, _&&_, not}
@@ -17,24 +17,13 @@ use Rattle.grammar.specs.Tests.{and-left, and-right, T-not-eq}
 use Rattle.accord.proofs.Shape.{Shape, In, lit, run, alt, seq, the, all, left, right, both, absent, first, free, clears}
 use Rattle.accord.proofs.Num.{vacant}
 
--- ── trimming, by shape: the first and the last byte are not of the class ──
+-- ── trimming: by shape, the first byte is not of the class ──
 abbrev pub opens : (ℕ → Bool) → Shape → Bool
 opens C (lit []) = false
 opens C (lit (c ∷ l)) = not (C c)
 opens C (run D) = false
 opens C (alt a b) = opens C a && opens C b
 opens C (seq a b) = opens C a
-
-abbrev pub lastOk : (ℕ → Bool) → List ℕ → Bool
-lastOk C [] = false
-lastOk C (c ∷ []) = not (C c)
-lastOk C (c ∷ d ∷ l) = lastOk C (d ∷ l)
-
-abbrev pub closes : (ℕ → Bool) → Shape → Bool
-closes C (lit l) = lastOk C l
-closes C (run D) = false
-closes C (alt a b) = closes C a && closes C b
-closes C (seq a b) = closes C b
 
 front-kept : (C : ℕ → Bool) {sh : Shape} {t : List ℕ} → In sh t → T (opens C sh) → (s : List ℕ) → less-leading C (t ++ s) ≡ t ++ s
 front-kept C (the {l = l}) h s = go l h
@@ -59,17 +48,50 @@ kept-behind C c t e (x ∷ s) = ap (unless-last C x) (kept-behind C c t e s) ∙
     go [] = refl
     go (y ∷ s) = refl
 
-last-kept : (C : ℕ → Bool) (l : List ℕ) → T (lastOk C l) → Kept C l
-last-kept C [] h = absurd h
-last-kept C (c ∷ []) h = kept-behind C c [] (ap (λ (k : Bool). if k then [] else c ∷ []) (T-not-eq (C c) h))
-last-kept C (c ∷ d ∷ l) h = kept-behind C c (d ∷ l) (last-kept C (d ∷ l) h (c ∷ []))
+pub kept-some : (C : ℕ → Bool) (t : List ℕ) → T (not (vacant t)) → less-trailing C t ≡ t → Kept C t
+kept-some C [] n e = absurd n
+kept-some C (c ∷ t) n e = kept-behind C c t e
 
-pub back-kept : (C : ℕ → Bool) {sh : Shape} {t : List ℕ} → In sh t → T (closes C sh) → Kept C t
-back-kept C (the {l = l}) h = last-kept C l h
-back-kept C (all k) h = absurd h
-back-kept C (left {a = a} {b = b} i) h = back-kept C i (and-left (closes C a) (closes C b) h)
-back-kept C (right {a = a} {b = b} i) h = back-kept C i (and-right (closes C a) (closes C b) h)
-back-kept C (both {u = u} {v = v} i j) h = λ s. ap (less-trailing C) (sym (append-assoc s u v)) ∙ back-kept C j h (s ++ u) ∙ append-assoc s u v
+-- the last byte is not of the class
+abbrev pub last-ok : (ℕ → Bool) → List ℕ → Bool
+last-ok C [] = false
+last-ok C (c ∷ []) = not (C c)
+last-ok C (c ∷ d ∷ l) = last-ok C (d ∷ l)
+
+pub back-kept : (C : ℕ → Bool) (l : List ℕ) → T (last-ok C l) → Kept C l
+back-kept C [] h = absurd h
+back-kept C (c ∷ []) h = kept-behind C c [] (ap (λ (k : Bool). if k then [] else c ∷ []) (T-not-eq (C c) h))
+back-kept C (c ∷ d ∷ l) h = kept-behind C c (d ∷ l) (back-kept C (d ∷ l) h (c ∷ []))
+
+-- what is left is kept
+back-twice : (C : ℕ → Bool) (t : List ℕ) → less-trailing C (less-trailing C t) ≡ less-trailing C t
+back-twice C [] = refl
+back-twice C (c ∷ t) = by (less-trailing C t) (back-twice C t)
+  where
+    alone : (k : Bool) → C c ≡ k → less-trailing C (if k then [] else c ∷ []) ≡ (if k then [] else c ∷ [])
+    alone true e = refl
+    alone false e = ap (λ (k : Bool). if k then [] else c ∷ []) e
+
+    by : (l : List ℕ) → less-trailing C l ≡ l → less-trailing C (unless-last C c l) ≡ unless-last C c l
+    by [] e = alone (C c) refl
+    by (d ∷ l) e = ap (unless-last C c) e
+
+-- and so is the end of a text that is kept
+end-kept : (C : ℕ → Bool) (u t : List ℕ) → less-trailing C (u ++ t) ≡ u ++ t → less-trailing C t ≡ t
+end-kept C [] t e = e
+end-kept C (c ∷ u) t e = end-kept C u t (by (less-trailing C (u ++ t)) e)
+  where
+    rest : List ℕ → List ℕ
+    rest [] = []
+    rest (b ∷ l) = l
+
+    alone : (k : Bool) → (if k then [] else c ∷ []) ≡ c ∷ (u ++ t) → [] ≡ u ++ t
+    alone true e = absurd (subst (λ (l : List ℕ). T (vacant l)) e tt)
+    alone false e = ap rest e
+
+    by : (l : List ℕ) → unless-last C c l ≡ c ∷ (u ++ t) → l ≡ u ++ t
+    by [] e = alone (C c) e
+    by (d ∷ l) e = ap rest e
 
 -- ── a text with a place for the mark ──
 pub record Hole (a b : Shape) (g : List ℕ → List ℕ) : Type 0 where
@@ -178,10 +200,19 @@ attach-mark : (o : Option Found) → each with-attribute o ≡ each (attach true
 attach-mark none = refl
 attach-mark (some r) = refl
 
-trims : {a b : Shape} {g : List ℕ → List ℕ} (h : Hole a b g) → T (opens white a) → T (closes white b) → (r : List ℕ) → trim (g r) ≡ g r
-trims h o c r =
-    ap trim (sym (h .split r)) ∙ ap (less-trailing white) (front-kept white (h .is-front) o (r ++ h .tail))
-    ∙ ap (less-trailing white) (sym (append-assoc (h .front) r (h .tail))) ∙ back-kept white (h .is-tail) c (h .front ++ r) ∙ append-assoc (h .front) r (h .tail) ∙ h .split r
+led : {a b : Shape} {g : List ℕ → List ℕ} (h : Hole a b g) → T (opens white a) → (r : List ℕ) → less-leading white (g r) ≡ g r
+led h o r = ap (less-leading white) (sym (h .split r)) ∙ front-kept white (h .is-front) o (r ++ h .tail) ∙ h .split r
+
+trims : {a b : Shape} {g : List ℕ → List ℕ} (h : Hole a b g) → T (opens white a) → T (not (vacant (h .tail))) → less-trailing white (h .tail) ≡ h .tail → (r : List ℕ) → trim (g r) ≡ g r
+trims h o n e r =
+    ap (less-trailing white) (led h o r ∙ sym (h .split r) ∙ sym (append-assoc (h .front) r (h .tail)))
+    ∙ kept-some white (h .tail) n e (h .front ++ r) ∙ append-assoc (h .front) r (h .tail) ∙ h .split r
+
+-- where some text is trimmed to it, its tail is kept
+tail-kept : {a b : Shape} {g : List ℕ → List ℕ} (h : Hole a b g) (r s : List ℕ) → trim s ≡ g r → less-trailing white (h .tail) ≡ h .tail
+tail-kept h r s q =
+    end-kept white r (h .tail) (end-kept white (h .front) (r ++ h .tail)
+    (subst (λ (t : List ℕ). less-trailing white t ≡ t) (q ∙ sym (h .split r)) (back-twice white (less-leading white s))))
 
 -- a text that opens is not empty, and so is none that trims to it
 opens-some : (C : ℕ → Bool) {sh : Shape} {t : List ℕ} → In sh t → T (opens C sh) → (s : List ℕ) → T (not (vacant (t ++ s)))
@@ -200,33 +231,34 @@ unfolding parse
 long [] t e h R f = absurd (subst (λ (t : List ℕ). T (not (vacant t))) (sym e) h)
 long (c ∷ s) t e h R f = f (length s)
 
--- what is trimmed to t is read as o, and so is t
+-- what is trimmed to t is read as o, and so is t where its end is kept
 pub record Reads (t : List ℕ) (o : Option Found) : Type 0 where
-  pub trimmed : trim t ≡ t
+  pub led : less-leading white t ≡ t
   pub parsed : (s : List ℕ) → trim s ≡ t → parse s ≡ o
 
 pub finds : {t : List ℕ} {o p : Option Found} → Reads t o → o ≡ p → Reads t p
-finds r e = record { trimmed = r .trimmed; parsed = λ s h. r .parsed s h ∙ e }
+finds r e = record { led = r .led; parsed = λ s h. r .parsed s h ∙ e }
 
 pub respelt : {t u : List ℕ} {o : Option Found} → t ≡ u → Reads t o → Reads u o
 respelt {o = o} e r = subst (λ (t : List ℕ). Reads t o) e r
 
-pub itself : {t : List ℕ} {o : Option Found} → Reads t o → parse t ≡ o
-itself {t} r = r .parsed t (r .trimmed)
+pub itself : {t : List ℕ} {o : Option Found} → Reads t o → less-trailing white t ≡ t → parse t ≡ o
+itself {t} r e = r .parsed t (ap (less-trailing white) (r .led) ∙ e)
 
-pub plainly : {a : Shape} {t : List ℕ} → In a t → T (free theMark a) → trim t ≡ t → T (not (vacant t)) → Reads t (unmarked t)
-plainly {t = t} i f e n = record { trimmed = e; parsed = λ s q. long s t q n (unmarked t) (λ k. plain-pass i f s q (suc k)) }
+pub plainly : {a : Shape} {t : List ℕ} → In a t → T (free theMark a) → less-leading white t ≡ t → T (not (vacant t)) → Reads t (unmarked t)
+plainly {t = t} i f e n = record { led = e; parsed = λ s q. long s t q n (unmarked t) (λ k. plain-pass i f s q (suc k)) }
 
 -- all that is to be computed of a hole's shapes
 abbrev pub fit : Shape → Shape → Bool
-fit a b = clears theMark theMark a && free theMark b && free theMark (seq a b) && opens white a && closes white b
+fit a b = clears theMark theMark a && free theMark b && free theMark (seq a b) && opens white a
 
 pub hole-in : {a b : Shape} {g : List ℕ → List ℕ} → Hole a b g → In (seq a b) (g [])
 hole-in {a} {b} h = subst (In (seq a b)) (h .split []) (both (h .is-front) (h .is-tail))
 
 -- THE LAW of a text with a place for the mark: it is read as the text with none
-pub reads : {a b : Shape} {g : List ℕ → List ℕ} (h : Hole a b g) → T (fit a b) → (m : Bool) → Reads (g (may m theMark)) (each (attach m) (unmarked (g [])))
-reads {a} {b} {g} h t m = record { trimmed = e (may m theMark); parsed = λ s q. long s (g (may m theMark)) q (any (may m theMark)) (each (attach m) (unmarked (g []))) (go m s q) }
+pub reads : {a b : Shape} {g : List ℕ → List ℕ} (h : Hole a b g) → T (fit a b) → T (not (vacant (h .tail))) → (m : Bool) →
+    Reads (g (may m theMark)) (each (attach m) (unmarked (g [])))
+reads {a} {b} {g} h t n m = record { led = led h t4 (may m theMark); parsed = λ s q. long s (g (may m theMark)) q (any (may m theMark)) (each (attach m) (unmarked (g []))) (go m s q) }
   where
     x1 : Bool
     x1 = clears theMark theMark a
@@ -240,22 +272,16 @@ reads {a} {b} {g} h t m = record { trimmed = e (may m theMark); parsed = λ s q.
     x4 : Bool
     x4 = opens white a
 
-    x5 : Bool
-    x5 = closes white b
-
-    t4 : T (x1 && x2 && x3 && x4)
-    t4 = and-left (x1 && x2 && x3 && x4) x5 t
-
     t3 : T (x1 && x2 && x3)
-    t3 = and-left (x1 && x2 && x3) x4 t4
+    t3 = and-left (x1 && x2 && x3) x4 t
 
-    e : (r : List ℕ) → trim (g r) ≡ g r
-    e = trims h (and-right (x1 && x2 && x3) x4 t4) (and-right (x1 && x2 && x3 && x4) x5 t)
+    t4 : T x4
+    t4 = and-right (x1 && x2 && x3) x4 t
 
     any : (r : List ℕ) → T (not (vacant (g r)))
-    any r = subst (λ (t : List ℕ). T (not (vacant t))) (h .split r) (opens-some white (h .is-front) (and-right (x1 && x2 && x3) x4 t4) (r ++ h .tail))
+    any r = subst (λ (t : List ℕ). T (not (vacant t))) (h .split r) (opens-some white (h .is-front) t4 (r ++ h .tail))
 
     go : (m : Bool) (s : List ℕ) → trim s ≡ g (may m theMark) → (k : ℕ) → passes (suc (suc k)) s ≡ each (attach m) (unmarked (g []))
     go true s q k = mark-pass h (and-left x1 x2 (and-left (x1 && x2) x3 t3)) (and-right x1 x2 (and-left (x1 && x2) x3 t3)) s q (suc k)
-        ∙ ap (each with-attribute) (plain-pass (hole-in h) (and-right (x1 && x2) x3 t3) (g []) (e []) k) ∙ attach-mark (unmarked (g []))
+        ∙ ap (each with-attribute) (plain-pass (hole-in h) (and-right (x1 && x2) x3 t3) (g []) (trims h t4 n (tail-kept h theMark s q) []) k) ∙ attach-mark (unmarked (g []))
     go false s q k = plain-pass (hole-in h) (and-right (x1 && x2) x3 t3) s q (suc k) ∙ attach-none (unmarked (g []))

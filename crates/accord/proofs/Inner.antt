@@ -85,7 +85,7 @@ shed t s h e = shed-past with-x 33 tt (bytes "cuda_tile.") t s h ∙ ap (λ (l :
 unprefixed : (b : Bool) (d : List ℕ) → T (every with-x d) → less-repeats (bytes "!cuda_tile.") (trim (d ++ cuda b)) ≡ ahead b d
 unprefixed true d h =
     ap (λ (t : List ℕ). less-repeats (bytes "!cuda_tile.") (less-trailing white t)) (front-up-to white d (bytes "!cuda_tile.") refl)
-    ∙ ap (less-repeats (bytes "!cuda_tile.")) (back-kept white (say (bytes "!cuda_tile.")) tt (less-leading white d))
+    ∙ ap (less-repeats (bytes "!cuda_tile.")) (back-kept white (bytes "!cuda_tile.") tt (less-leading white d))
     ∙ shed (less-leading white d) (bytes "!cuda_tile.") (front-class with-x white d h) refl
 unprefixed false d h =
     ap (λ (t : List ℕ). less-repeats (bytes "!cuda_tile.") (trim t)) (append-nil d)

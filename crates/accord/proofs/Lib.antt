@@ -6,6 +6,7 @@ pub mod Forms
 pub mod Cases
 pub mod Names
 pub mod Lists
+pub mod Dims
 pub mod Hole
 pub mod Inner
 pub mod Outer

@@ -9,7 +9,7 @@ use lib.IntN.{ℤ, pos, negsuc}
 use Rattle.lexis.specs.Text.{bytes, same, split, onto-first, found, occurs, Cut, if_then_else_}
 use Rattle.numerals.specs.Numeral.{digit, numeral}
 use Rattle.meaning.specs.Decimal.{digits, decimal, Dim, dynamic, known, dim, size, in64, in32}
-use Rattle.meaning.specs.Strict.{may, comma, Next, Commas, rest, commas, values, dims, xrest, Entries, byX, byComma, entries, entriesOf}
+use Rattle.meaning.specs.Strict.{may, comma, Next, Commas, rest, commas, values, xrest, Entries, byX, byComma, entries, entriesOf}
 use Rattle.meaning.specs.Meant.{eachOf}
 use Rattle.meaning.specs.Parts.{last, front}
 use Rattle.meaning.specs.Found.{Entry, read}
@@ -141,12 +141,7 @@ module _ {A : Type 0} (r : List ℕ → Entry) (f : A → List ℕ) (g : A → �
   commas-read c o = rest-read (c .tail) (f (c .head)) (g (c .head)) (every-mono figure gapped figure-gapped (f (c .head)) (cl (c .head)))
       (rd false (c .head) (and-left (k (c .head)) _ o)) (and-right (k (c .head)) _ o)
 
--- ── dimensions, each followed by x, and a last part ──
-pub dims-split : (ds : List Dim) (C : ℕ → Bool) → T (not (C 120)) → (w : List ℕ) → T (every C w) → split 120 (dims ds ++ w) ≡ map dim ds ++ (w ∷ [])
-dims-split [] C n w h = split-none C 120 n w h
-dims-split (d ∷ ds) C n w h =
-    ap (split 120) (append-assoc (dim d) (120 ∷ dims ds) w) ∙ split-at figure 120 tt (dim d) (dims ds ++ w) (dim-figure d) ∙ ap (λ (l : List (List ℕ)). dim d ∷ l) (dims-split ds C n w h)
-
+-- ── dimensions ──
 pub last-snoc : (ls : List (List ℕ)) (w : List ℕ) → last (ls ++ (w ∷ [])) ≡ w
 last-snoc [] w = refl
 last-snoc (l ∷ []) w = refl

@@ -3,22 +3,27 @@ use Prim.Native.Nat.{ℕ, zero, suc, _+_, _-_, _≤_, _<_}
 use native.Mathlib.Numerals.{add-one}
 use native.Mathlib.Omega.{arith}
 use mathlib.Core.Path.{_≡_, refl, sym, ap, subst, _∙_}
-use mathlib.Core.Bool.{Bool, true, false, _&&_, not}
+use mathlib.Core.Bool.{Bool, true, false, _&&_, _||_, not}
 use mathlib.Core.List as L
 use mathlib.Core.List.{List, [], _∷_, _++_, append-assoc, append-nil, map-append}
-use borrow.Author.Tests.{eq-eqb, ne-eqb}
-use lib.Dec.{eqb}
-use lib.IntN.{ℤ}
+use borrow.Author.Tests.{eq-eqb, ne-eqb, eqb-false, le-leb, lt-leb, le-ltb, lt-ltb, not-true}
+use lib.Dec.{eqb, leb, ltb}
+use lib.IntN.{ℤ, pos}
 use lib.ListN.{length, drop, getD, set, length-append, length-set, length-drop}
 use lib.Seq.{drop-drop, getD-drop}
 use Rattle.lexis.specs.Text.{Text, until, split, onto-first, if_then_else_}
 use Rattle.meaning.specs.Parts.{last, front}
-use Rattle.lexis.proofs.Seeking.{until-within}
+use Rattle.lexis.proofs.Seeking.{right, until-within}
 use Rattle.meaning.specs.Found.{Entry, read, fell, value, fallen, stands, padded}
 use Rattle.meaning.specs.Views.{small}
-use Rattle.lists.specs.Next.{stop, told, sep, other, hole, parts, lay, Fore}
+use Rattle.meaning.specs.Tile.{dimension}
+use Rattle.lists.specs.Next.{stop, told, sep, other, hole, parts, by-x, firm, lay, Leading, Fore, lastly, Dims}
 use Rattle.lists.specs.Laid.{Laid, laid}
-use Rattle.lists.specs.Push.{put, push}
+use Rattle.lists.specs.Push.{put, push, Due, ended}
+use Rattle.lists.specs.declared.next.Next64.{Next64}
+use Rattle.lists.specs.declared.next.Next32.{Next32}
+use Rattle.lists.specs.declared.fore.Fore64.{Fore64}
+use Rattle.lists.proofs.Stopping.{left}
 use Rattle.lists.proofs.Laying.{front-of, last-of, slot, with-last}
 
 sep-stops : (x : Bool) → stop (sep x) ≡ true
@@ -109,6 +114,19 @@ told-few (fell z) = omega arith
 pub few : {v : ℤ} {d : ℕ} (e : Entry) → (v, d) ≡ told e → d ≤ 1
 few {d = d} e k = let q : d ≡ told e .1 = ap (λ (q : ℤ × ℕ). q .1) k in let f = told-few e in omega arith
 
+-- ── a dimension up to the next structural byte ──
+
+pub told-due : {x : Bool} {s : Text} {at : ℕ} {r : Next64} → r .end ≡ at + length (until stop (drop at s)) → (r .value, r .fell) ≡ told (dimension (until stop (drop at s))) → Due x s at r
+told-due {s = s} {at = at} e p = record { ends = e; says = λ _. p; few = few (dimension (until stop (drop at s))) p }
+
+-- left unread, since no `x` follows
+pub untold-due : {x : Bool} {s : Text} {at : ℕ} {r : Next64} {b : ℕ} → r .end ≡ at + length (until stop (drop at s)) → r .fell ≡ 0 → b ≡ getD s (r .end) 0 → x && not (eqb b 120) ≡ true → Due x s at r
+untold-due {x = x} {b = b} e z p t = record {
+  ends = e;
+  says = λ h. absurd (eqb-false b 120 (not-true (eqb b 120) (right x (not (eqb b 120)) t)) (p ∙ h (left x (not (eqb b 120)) t)));
+  few = omega arith;
+}
+
 -- ── what a loop keeps ──
 
 -- passed up to i: n entries, laid over l as `out`, `odd` of which fell back
@@ -164,26 +182,117 @@ module _ {f : Text → Entry} {x : Bool} {s : Text} {from : ℕ} {l out : List �
       length-map [] = refl
       length-map (q ∷ ps) = ap suc (length-map ps)
 
-  pub done : (getD s e 0 ≡ sep x → ⊥) → {v : ℤ} {d : ℕ} → (v, d) ≡ told (f (until stop (drop i s))) → Fore f x s from l out n odd i e (v, d)
-  done h k =
-      let t = until stop (drop i s) in
-      let hl = hole-last x (drop i s) (λ q. h (here ∙ q)) in
-      let sp : parts x (drop from s) ≡ g .passed ++ t ∷ [] = g .splits ∙ ap (λ (r : List Text). g .passed ++ r) (ap (split (sep x)) hl ∙ one-part x (drop i s)) in
-      let fr : front (parts x (drop from s)) ≡ g .passed = ap front sp ∙ front-of (g .passed) t in
-      let la : last (parts x (drop from s)) ≡ t = ap last sp ∙ last-of (g .passed) t in
-      let pl = g .place in
-      let ll = ap length hl in
-      let lt = ap length la in
-      record {
-        values = g .values ∙ ap (λ (ps : List Text). lay l 0 (L.map (λ p. value (f p)) ps)) (sym fr);
-        count = g .count ∙ ap length (sym fr);
-        odd = g .fallen-so ∙ ap (λ (ps : List Text). fallen (L.map f ps)) (sym fr);
-        entry = k ∙ ap (λ (p : Text). told (f p)) (sym la);
-        few = g .fewest;
-        fewer = g .fewer;
-        begins = omega arith;
-        ends = omega arith;
-      }
+  module _ (h : getD s e 0 ≡ sep x → ⊥) where
+    sp : parts x (drop from s) ≡ g .passed ++ until stop (drop i s) ∷ []
+    sp = g .splits ∙ ap (λ (r : List Text). g .passed ++ r) (ap (split (sep x)) (hole-last x (drop i s) (λ q. h (here ∙ q))) ∙ one-part x (drop i s))
+
+    pub fr : front (parts x (drop from s)) ≡ g .passed
+    fr = ap front sp ∙ front-of (g .passed) (until stop (drop i s))
+
+    pub la : last (parts x (drop from s)) ≡ until stop (drop i s)
+    la = ap last sp ∙ last-of (g .passed) (until stop (drop i s))
+
+    pub leads : Leading f x s from l out n odd i
+    leads =
+        let pl = g .place in let ll = ap length (hole-last x (drop i s) (λ q. h (here ∙ q))) in let lt = ap length la in
+        record {
+          values = g .values ∙ ap (λ (ps : List Text). lay l 0 (L.map (λ p. value (f p)) ps)) (sym fr);
+          count = g .count ∙ ap length (sym fr);
+          odd = g .fallen-so ∙ ap (λ (ps : List Text). fallen (L.map f ps)) (sym fr);
+          few = g .fewest;
+          fewer = g .fewer;
+          begins = omega arith;
+        }
+
+    pub stops : e ≡ from + length (hole x (drop from s))
+    stops = let pl = g .place in let ll = ap length (hole-last x (drop i s) (λ q. h (here ∙ q))) in omega arith
+
+    pub done : {v : ℤ} {d : ℕ} → (v, d) ≡ told (f (until stop (drop i s))) → Fore f x s from l out n odd i e (v, d)
+    done k = record { leading = leads; entry = k ∙ ap (λ (p : Text). told (f p)) (sym la); ends = stops }
+
+-- ── dimensions: whether those that are passed may stand before a pointer ──
+
+pub record Firmly (x : Bool) (s : Text) (from : ℕ) (l out : List ℤ) (n odd : ℕ) (k : Bool) (i : ℕ) : Type 0 where
+  pub passing : Passing dimension x s from l out n odd i
+  pub solid : k ≡ firm (passing .passed)
+
+pub firmly : (x : Bool) (s : Text) (from : ℕ) (l : List ℤ) → Firmly x s from l l 0 0 true from
+unfolding begin
+firmly x s from l = record { passing = begin dimension x s from l; solid = refl }
+
+-- n is the number of those before the last, p the last
+firm-more : (ps : List Text) (p : Text) (n : ℕ) → n ≡ length ps → eqb n 0 || leb 1 (length p) ≡ firm (ps ++ p ∷ [])
+firm-more ps p n e = λ i. (first n ∙ ap (λ (k : ℕ). leb k 1) len) i || leb 1 (length (sym (last-of ps p) i))
+  where
+    len : n + 1 ≡ length (ps ++ p ∷ [])
+    len = let q = length-append ps (p ∷ []) in omega arith
+
+    first : (n : ℕ) → eqb n 0 ≡ leb (n + 1) 1
+    first zero = refl
+    first (suc n) = ne-eqb (suc n) 0 (λ e. omega arith) ∙ sym (lt-leb (suc n + 1) 1 (omega arith))
+
+module _ {x : Bool} {s : Text} {from : ℕ} {l out : List ℤ} {n odd i : ℕ} {k : Bool} {m : Next64} (g : Firmly x s from l out n odd k i) (d : Due x s i m) where
+  told-by : getD s (m .end) 0 ≡ sep x → (m .value, m .fell) ≡ told (dimension (until stop (drop i s)))
+  told-by h = d .says (λ e. h ∙ ap sep e)
+
+  -- where one more is laid, the text goes on
+  pub room : getD s (m .end) 0 ≡ sep x → (m .end < length s) × (i ≤ m .end) × (n ≤ i) × (odd ≤ n) × (m .fell ≤ 1)
+  room h = (within x s (m .end) h, let e = d .ends in omega arith, g .passing .fewest, g .passing .fewer, d .few)
+
+  pub firm-on : getD s (m .end) 0 ≡ sep x → {out′ : List ℤ} {u : ℤ} {b : Bool} → out′ ≡ set out n u → u ≡ m .value → b ≡ eqb n 0 || ltb i (m .end) → Firmly x s from l out′ (n + 1) (odd + m .fell) b (m .end + 1)
+  unfolding more
+  firm-on h q w b = record {
+    passing = more (g .passing) (d .ends) h q w (told-by h);
+    solid = b ∙ ap (λ (t : Bool). eqb n 0 || t) some-bytes ∙ firm-more (g .passing .passed) (until stop (drop i s)) n (g .passing .count);
+  }
+    where
+      some-bytes : ltb i (m .end) ≡ leb 1 (length (until stop (drop i s)))
+      some-bytes = by (length (until stop (drop i s))) (d .ends)
+        where
+          by : (k : ℕ) → m .end ≡ i + k → ltb i (m .end) ≡ leb 1 k
+          by zero e = le-ltb i (m .end) (omega arith)
+          by (suc k) e = lt-ltb i (m .end) (omega arith) ∙ sym (le-leb 1 (suc k) (omega arith))
+
+  pub firm-done : (getD s (m .end) 0 ≡ sep x → ⊥) → {r : Fore64} → r ≡ ended x n odd k i m → Dims x s from l out r
+  firm-done h q = subst (Dims x s from l out) (sym q) record {
+    leading = leads (g .passing) (d .ends) h;
+    solid = g .solid ∙ ap firm (sym (fr (g .passing) (d .ends) h));
+    entry = by x (λ e. d .says e) ∙ ap (lastly x) (sym (la (g .passing) (d .ends) h));
+    ends = stops (g .passing) (d .ends) h;
+  }
+    where
+      by : (x : Bool) → ((x ≡ true → getD s (m .end) 0 ≡ 120) → (m .value, m .fell) ≡ told (dimension (until stop (drop i s)))) →
+          (if x then pos 0 else m .value, if x then 0 else m .fell) ≡ lastly x (until stop (drop i s))
+      by true f = refl
+      by false f = f (λ e. let z : _≡_ {A = ℕ} 0 1 = ap (λ (b : Bool). if b then 1 else 0) e in let o : ⊥ = omega arith in absurd o)
+
+-- ── 32-bit entries: the next one is at hand ──
+
+pub record Held (f : Text → Entry) (either : Bool) (s : Text) (from : ℕ) (l out : List ℤ) (c n odd i : ℕ) (m : Next32) : Type 0 where
+  pub passing : Passing f (by-x either (drop from s)) s from l out n odd i
+  pub parted : c ≡ sep (by-x either (drop from s))
+  pub ends : m .end ≡ i + length (until stop (drop i s))
+  pub says : (m .value, m .fell) ≡ told (f (until stop (drop i s)))
+
+pub held : (f : Text → Entry) (either : Bool) (s : Text) (from : ℕ) (l : List ℤ) {m : Next32} {b c : ℕ} → (m .end ≡ from + length (until stop (drop from s))) × ((m .value, m .fell) ≡ told (f (until stop (drop from s)))) →
+    b ≡ getD s (m .end) 0 → c ≡ sep (either && eqb b 120) → Held f either s from l l c 0 0 from m
+held f either s from l {m} {b} {c} p q e = record {
+  passing = begin f (by-x either (drop from s)) s from l;
+  parted = e ∙ ap (λ (k : ℕ). sep (either && eqb k 120)) (q ∙ ap (λ (k : ℕ). getD s k 0) (p .0) ∙ sym (getD-drop from s (length (until stop (drop from s))) 0));
+  ends = p .0;
+  says = p .1;
+}
+
+module _ {f : Text → Entry} {either : Bool} {s : Text} {from : ℕ} {l out : List ℤ} {c n odd i : ℕ} {m : Next32} (g : Held f either s from l out c n odd i m) where
+  pub held-room : getD s (m .end) 0 ≡ c → (m .end < length s) × (i ≤ m .end) × (n ≤ i) × (odd ≤ n) × (m .fell ≤ 1)
+  held-room h = (within (by-x either (drop from s)) s (m .end) (h ∙ g .parted), let e = g .ends in omega arith, g .passing .fewest, g .passing .fewer, few (f (until stop (drop i s))) (g .says))
+
+  pub held-on : getD s (m .end) 0 ≡ c → {out′ : List ℤ} {u : ℤ} {m′ : Next32} → out′ ≡ set out n u → u ≡ m .value →
+      (m′ .end ≡ m .end + 1 + length (until stop (drop (m .end + 1) s))) × ((m′ .value, m′ .fell) ≡ told (f (until stop (drop (m .end + 1) s)))) → Held f either s from l out′ c (n + 1) (odd + m .fell) (m .end + 1) m′
+  held-on h q w p = record { passing = more (g .passing) (g .ends) (h ∙ g .parted) q w (g .says); parted = g .parted; ends = p .0; says = p .1 }
+
+  pub held-done : (getD s (m .end) 0 ≡ c → ⊥) → {v : ℤ} → v ≡ m .value → Fore f (by-x either (drop from s)) s from l out n odd i (m .end) (v, m .fell)
+  held-done h w = done (g .passing) (g .ends) (λ q. h (q ∙ sym (g .parted))) (ap (λ (z : ℤ). (z, m .fell)) w ∙ g .says)
 
 -- a default by its bits
 pub respelt : {d e : ℤ} {x : Bool} {s : Text} {from : ℕ} {l l′ : List ℤ} {n odd i end : ℕ} {v : ℤ × ℕ} → d ≡ e → Fore (small d) x s from l l′ n odd i end v → Fore (small e) x s from l l′ n odd i end v
@@ -208,7 +317,7 @@ push-told l (fell z) = refl
 abbrev pub row : List ℤ → ℕ → ℕ → Laid
 row l n odd = record { values = l; len = n; fell = odd; filled = 0 }
 
-module _ {f : Text → Entry} {x : Bool} {s : Text} {from : ℕ} {l l′ : List ℤ} {n odd start end : ℕ} {e : ℤ × ℕ} (o : l ≡ padded 8 []) (g : Fore f x s from l l′ n odd start end e) where
+module _ {f : Text → Entry} {x : Bool} {s : Text} {from : ℕ} {l l′ : List ℤ} {n odd start : ℕ} (o : l ≡ padded 8 []) (g : Leading f x s from l l′ n odd start) where
   pub laid-fore : row l′ n odd ≡ laid 8 (stands (L.map f (front (parts x (drop from s)))))
   laid-fore =
       let ps = front (parts x (drop from s)) in
@@ -225,11 +334,11 @@ module _ {f : Text → Entry} {x : Bool} {s : Text} {from : ℕ} {l l′ : List 
       length-map f (q ∷ ps) = ap suc (length-map f ps)
 
   -- with the last entry
-  pub laid-all : {l″ : List ℤ} {v : ℤ} → l″ ≡ set l′ n v → v ≡ e .0 → row l″ (n + 1) (odd + e .1) ≡ laid 8 (stands (L.map f (parts x (drop from s))))
-  laid-all q w =
+  pub laid-all : {end : ℕ} {e : ℤ × ℕ} → Fore f x s from l l′ n odd start end e → {l″ : List ℤ} {v : ℤ} → l″ ≡ set l′ n v → v ≡ e .0 → row l″ (n + 1) (odd + e .1) ≡ laid 8 (stands (L.map f (parts x (drop from s))))
+  laid-all {e = e} d q w =
       with-last 8 (sep x) f (hole x (drop from s)) laid-fore refl
       ((λ i. record { values = (q ∙ ap (set l′ n) w) i; len = n + 1; fell = odd + e .1; filled = 0 })
-      ∙ (λ i. put (row l′ n odd) (g .entry i .0) (g .entry i .1)) ∙ push-told (row l′ n odd) (f (last (parts x (drop from s)))))
+      ∙ (λ i. put (row l′ n odd) (d .entry i .0) (d .entry i .1)) ∙ push-told (row l′ n odd) (f (last (parts x (drop from s)))))
 
 -- no part is longer than the text
 onto-within : (c : ℕ) (ps : List Text) → length (last (onto-first c ps)) ≤ suc (length (last ps))
@@ -246,10 +355,10 @@ last-within c (b ∷ t) = by (eqb c b) (split c t) (last-within c t)
     by true (p ∷ ps) h = omega arith
     by false ps h = let q = onto-within b ps in omega arith
 
--- where it begins and ends
-pub fore-place : {f : Text → Entry} {x : Bool} {s : Text} {from : ℕ} {l l′ : List ℤ} {n odd start end : ℕ} {e : ℤ × ℕ} → from ≤ length s → Fore f x s from l l′ n odd start end e →
-    (start ≡ from + (length (hole x (drop from s)) - length (last (parts x (drop from s))))) × (from ≤ start) × (end ≤ length s)
+-- where the last part begins, and where it ends
+pub fore-place : {f : Text → Entry} {x : Bool} {s : Text} {from : ℕ} {l l′ : List ℤ} {n odd start : ℕ} → from ≤ length s → Leading f x s from l l′ n odd start →
+    (start ≡ from + (length (hole x (drop from s)) - length (last (parts x (drop from s))))) × (from ≤ start) × (from + length (hole x (drop from s)) ≤ length s)
 fore-place {x = x} {s = s} {from = from} h g =
-    let a = g .begins in let b = g .ends in let c = until-within (other x) (drop from s) in let d = length-drop from s in
+    let a = g .begins in let c = until-within (other x) (drop from s) in let d = length-drop from s in
     let w = last-within (sep x) (hole x (drop from s)) in
     (omega arith, omega arith, omega arith)

@@ -63,7 +63,7 @@ ranged d ks k (suc n) e b l u o =
 
 -- the keys of the code's match
 abbrev pub keys : List ℕ
-keys = 33 ∷ 35 ∷ 44 ∷ 91 ∷ 93 ∷ 95 ∷ 110 ∷ 120 ∷ 122 ∷ []
+keys = 33 ∷ 35 ∷ 44 ∷ 91 ∷ 93 ∷ 110 ∷ 120 ∷ 122 ∷ []
 
 module _ (b : ℕ) where
   pub low : b < 40 → (OneOf keys b → ⊥) → stop b ≡ false

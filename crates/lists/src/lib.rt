@@ -27,6 +27,4 @@ pub use list::parse_front;
 pub use list::parse_one;
 pub use list::parse_smalls;
 pub use next::Next32;
-pub use next::Next64;
-pub use next::next_dim;
 pub use next::next_small;

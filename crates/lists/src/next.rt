@@ -12,15 +12,15 @@ ghost use lib.ListN.{drop, getD, length};
 ghost use Rattle.lexis.specs.Text.{if_then_else_, until};
 ghost use Rattle.numerals.specs.Numeral.{minus};
 ghost use Rattle.numerals.specs.Parts.{Running};
-ghost use Rattle.meaning.specs.Tile.{dimension};
 ghost use Rattle.meaning.specs.Views.{small};
 ghost use Rattle.lists.specs.Next.{stop, told};
+ghost use Rattle.lists.specs.Push.{Due};
 
 // An entry, whether it fell back (0 or 1), and where it ends.
-pub struct Next64 {
-    pub value: i64,
-    pub fell: usize,
-    pub end: usize,
+pub(crate) struct Next64 {
+    pub(crate) value: i64,
+    pub(crate) fell: usize,
+    pub(crate) end: usize,
 }
 
 // The same at 32 bits.
@@ -41,7 +41,7 @@ fn stop(b: u8) -> bool
     ensures { λ r. ⌜ r ≡ stop b ⌝ }
 {
     match b {
-        120 | 44 | 40 | 41 | 91 | 93 | 60 | 62 | 35 | 95 | 61 | 33 | 110 | 122 | 128..=255 => true,
+        120 | 44 | 40 | 41 | 91 | 93 | 60 | 62 | 35 | 61 | 33 | 110 | 122 | 128..=255 => true,
         _ => false,
     }
 }
@@ -109,12 +109,20 @@ fn signed64(n: u64, neg: bool) -> i64
     if neg { 0 - v } else { v }
 }
 
-// Any dimension: its end is sought from `from` on, where no structural byte stands before that; then it is read.
-fn any_dim(s: &[u8], at: usize, from: usize) -> Next64
+// Any dimension: its end is sought from `from` on, where no structural byte stands before that; then it is read, unless it should end at an `x`
+// and doesn't.
+fn any_dim(s: &[u8], at: usize, from: usize, x: bool) -> Next64
     requires { ⌜ at + length (until stop (drop at (now s))) ≡ from + length (until stop (drop from (now s))) ⌝ }
-    ensures { λ r. ⌜ (r .end ≡ at + length (until stop (drop at (now (s .entry))))) × ((r .value, r .fell) ≡ told (dimension (until stop (drop at (now (s .entry)))))) ⌝ }
+    ensures { λ r. ⌜ Due x (now (s .entry)) at r ⌝ }
 {
     let end = until_stop(s, from);
+    if x & (peek(s, end) != 120) {
+        return Next64 {
+            value: 0,
+            fell: 0,
+            end,
+        };
+    }
     match parse_dim(part(s, at, end)) {
         Entry64::Read(value) => Next64 {
             value,
@@ -129,9 +137,10 @@ fn any_dim(s: &[u8], at: usize, from: usize) -> Next64
     }
 }
 
-// The dimension that stands from `at` on before the next structural byte, and the place of that byte.
-pub fn next_dim(s: &[u8], at: usize) -> Next64
-    ensures { λ r. ⌜ (r .end ≡ at + length (until stop (drop at (now (s .entry))))) × ((r .value, r .fell) ≡ told (dimension (until stop (drop at (now (s .entry)))))) ⌝ }
+// The dimension that stands from `at` on before the next structural byte, and the place of that byte. Where it should end at an `x` and
+// doesn't, it may be left unread.
+pub(crate) fn next_dim(s: &[u8], at: usize, x: bool) -> Next64
+    ensures { λ r. ⌜ Due x (now (s .entry)) at r ⌝ }
 {
     let i = skip_white(s, at);
     let b = peek(s, i);
@@ -144,7 +153,7 @@ pub fn next_dim(s: &[u8], at: usize) -> Next64
                 end: e,
             };
         }
-        return any_dim(s, at, e);
+        return any_dim(s, at, e, x);
     }
     let neg = b == 45;
     let k = if neg { i + 1 } else { i };
@@ -159,7 +168,7 @@ pub fn next_dim(s: &[u8], at: usize) -> Next64
             end: e,
         };
     }
-    any_dim(s, at, e)
+    any_dim(s, at, e, x)
 }
 
 fn signed32(n: u64, neg: bool) -> i32

@@ -35,24 +35,24 @@ pub enum Padding {
     NegInf,
 }
 
-// A type, flat: five lists, each an array and a length.
+// A type, flat: five lists, each an array and a length. The fields stand as they cross to C (`numbers`), so that nothing is moved there.
 pub struct Record {
+    pub shape_len: usize,
+    pub strides_len: usize,
+    pub tile_len: usize,
+    pub map_len: usize,
+    pub traversal_len: usize,
+    pub shape: [i64; CAP],
+    pub strides: [i64; CAP],
+    pub tile: [i32; CAP],
+    pub map: [i32; CAP],
+    pub traversal: [i32; CAP],
+    pub sparse: i32,
     pub kind: Kind,
     pub element: Scalar,
+    pub padding: Padding,
     pub pointer: bool,
     pub attribute: bool,
-    pub shape: [i64; CAP],
-    pub shape_len: usize,
-    pub strides: [i64; CAP],
-    pub strides_len: usize,
-    pub tile: [i32; CAP],
-    pub tile_len: usize,
-    pub map: [i32; CAP],
-    pub map_len: usize,
-    pub traversal: [i32; CAP],
-    pub traversal_len: usize,
-    pub sparse: i32,
-    pub padding: Padding,
 }
 
 // Why a call refused, or that it accepted.
@@ -97,10 +97,10 @@ pub struct Note {
 
 // What a reader answers.
 pub struct Reading {
-    pub refusal: Refusal,
-    pub place: usize,
     pub value: Record,
+    pub place: usize,
     pub note: Note,
+    pub refusal: Refusal,
 }
 
 // What the writer answers.

@@ -15,19 +15,15 @@ use Rattle.meaning.specs.Parts.{last, front}
 use Rattle.meaning.specs.Tile.{dimension}
 use Rattle.grammar.specs.Tests.{every, and-left, and-right, and-in}
 use Rattle.lists.specs.Laid.{Laid, laid}
-use Rattle.lists.specs.Next.{stop, hole, other, parts}
+use Rattle.lists.specs.Next.{stop, hole, other}
+use Rattle.lists.specs.Next as N
 use Rattle.accord.proofs.Num.{every-mono, every-++}
 use Rattle.accord.proofs.Forms.{Of, over, sans, with-x}
 use Rattle.accord.proofs.Shape.{run}
-use Rattle.accord.proofs.Lists.{split-none, split-at}
+use Rattle.accord.proofs.Dims.{xed, xed-split}
 use Rattle.strict.specs.Loose.{shape}
 use Rattle.skim.proofs.Steps.{ascii, Walk}
 use Rattle.skim.proofs.Holes.{plain, kept, kept-cases, plain-low, plain-x, until-rest, until-class, fore}
-
--- parts, each followed by `x`
-abbrev pub xed : List Text → Text
-xed [] = []
-xed (p ∷ ps) = p ++ (120 ∷ xed ps)
 
 abbrev some-of : List Text → Bool
 some-of [] = false
@@ -78,16 +74,14 @@ xed-class C f x (p ∷ ps) h =
 abbrev pub sans-x : ℕ → Bool
 sans-x = sans (120 ∷ [])
 
-pub xed-split : (ps : List Text) → T (plains ps) → (v : Text) → T (every sans-x v) → split 120 (xed ps ++ v) ≡ ps ++ (v ∷ [])
+pub parts-split : (ps : List Text) → T (plains ps) → (v : Text) → T (every sans-x v) → split 120 (xed ps ++ v) ≡ ps ++ (v ∷ [])
 unfolding stop
-xed-split [] h v n = split-none sans-x 120 tt v n
-xed-split (p ∷ ps) h v n =
-    ap (split 120) (append-assoc p (120 ∷ xed ps) v) ∙ split-at plain 120 tt p (xed ps ++ v) (and-left (every plain p) (plains ps) h)
-    ∙ ap (λ (l : List Text). p ∷ l) (xed-split ps (and-right (every plain p) (plains ps) h) v n)
+parts-split ps h v n = xed-split plain tt ps h sans-x tt v n
 
 pub record Dims (t : Text) (l : Laid) (r : Text) : Type 0 where
   pub parts : List Text
   pub is : xed parts ++ r ≡ t
+  pub from : parts ≡ front (N.parts true t)
   pub class : T (plains parts)
   pub row : l ≡ laid 8 (stands (L.map dimension parts))
 
@@ -96,7 +90,7 @@ dims-of ps h = over (xed ps) (xed-class with-x plain-x tt ps h)
 
 pub dims : (t : Text) → Walk t (Dims t) (shape t)
 dims t = (
-  record { parts = ps; is = is; class = class; row = refl },
+  record { parts = ps; is = is; from = refl; class = class; row = refl },
   fore (xed ps) (drop n t) t is (xed-class ascii plain-low tt ps class),
 )
   where

@@ -1,4 +1,5 @@
--- By computation: texts that are no strict forms and that the walk reads, and one that it leaves (its list of strides isn't closed).
+-- By computation: texts that are no strict forms and that the walk reads, and some that it leaves: with a list of strides that isn't closed,
+-- with an empty last dimension of several before a pointer, with `#` behind the brackets, with bytes behind a name.
 use mathlib.Core.List as L
 use mathlib.Core.List.{[], _∷_}
 use mathlib.Core.Path.{_≡_, refl}
@@ -22,6 +23,13 @@ tiles :
     ≡ Accepted ∷ Accepted ∷ Accepted ∷ Accepted ∷ Accepted ∷ Accepted ∷ []
 unfolding stop skimmed W.loosely W.tile W.element W.pointee W.answered choose dimension DYNAMIC refused
 tiles = refl
+
+looser :
+    L.map refusal
+    (bytes "tile<1_0xf32>" ∷ bytes "tile<-x4xptr<f32>>" ∷ bytes "tile<4xxptr<f32>>" ∷ bytes "tile<xptr<f32>>" ∷ bytes "tile<f32> > junk" ∷ bytes "ptr<f32>, #" ∷ bytes "f32 junk" ∷ [])
+    ≡ Accepted ∷ Accepted ∷ NotStrict ∷ Accepted ∷ Accepted ∷ NotStrict ∷ NotStrict ∷ []
+unfolding stop skimmed W.loosely W.tile W.element W.pointee W.answered choose dimension DYNAMIC refused
+looser = refl
 
 tensors :
     L.map refusal

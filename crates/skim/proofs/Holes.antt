@@ -35,7 +35,7 @@ kept-cases {X} x c = go (stop c) (eqb c (sep x))
 
 pub plain-low : (c : ℕ) → T (plain c) → T (ascii c)
 unfolding stop
-plain-low c = go (some-of (eqb c) (bytes "x,()[]<>#_=!nz")) (leb 128 c)
+plain-low c = go (some-of (eqb c) (bytes "x,()[]<>#=!nz")) (leb 128 c)
   where
     go : (a b : Bool) → T (not (a || b)) → T (not b)
     go true b h = absurd h
@@ -47,20 +47,20 @@ kept-low false c h = kept-cases false c h (plain-low c) (λ e. subst (λ (z : �
 
 pub kept-both : (x : Bool) (c : ℕ) → T (kept x c) → T (with-both c)
 unfolding stop
-kept-both true c h = sans-all (kept true) (bytes "()[]<>#_=!nz") tt c h
-kept-both false c h = sans-all (kept false) (bytes "()[]<>#_=!nz") tt c h
+kept-both true c h = sans-all (kept true) (bytes "()[]<>#=!nz") tt c h
+kept-both false c h = sans-all (kept false) (bytes "()[]<>#=!nz") tt c h
 
 pub kept-comma : (c : ℕ) → T (kept false c) → T (with-comma c)
 unfolding stop
-kept-comma c h = sans-all (kept false) (bytes "x()[]<>#_=!nz") tt c h
+kept-comma c h = sans-all (kept false) (bytes "x()[]<>#=!nz") tt c h
 
 pub plain-loose : (c : ℕ) → T (plain c) → T (loose c)
 unfolding stop
-plain-loose c h = sans-all plain (bytes "x,()[]<>#_=!nz") tt c h
+plain-loose c h = sans-all plain (bytes "x,()[]<>#=!nz") tt c h
 
 pub plain-x : (c : ℕ) → T (plain c) → T (with-x c)
 unfolding stop
-plain-x c h = sans-all plain (bytes ",()[]<>#_=!nz") tt c h
+plain-x c h = sans-all plain (bytes ",()[]<>#=!nz") tt c h
 
 pub white-low : (c : ℕ) → T (white c) → T (ascii c)
 white-low c h = not-T (leb 128 c) (λ k. let q = leb→le 128 c k in

@@ -20,12 +20,14 @@ use Rattle.grammar.specs.Piece.{got, stuck}
 use Rattle.grammar.specs.Join.{mapped, after}
 use Rattle.grammar.specs.Whole.{glue-more}
 use Rattle.lists.specs.Laid.{Laid, laid}
+use Rattle.lists.specs.Next.{parts, firm}
 use Rattle.lists.proofs.Bounds.{dims-len}
 use Rattle.accord.proofs.Num.{every-mono, every-++}
 use Rattle.accord.proofs.Names.{word-class, spaced-name}
 use Rattle.accord.proofs.Forms.{Of, over, spaced, named, sans-all}
 use Rattle.accord.proofs.Forms as S
 use Rattle.accord.proofs.Lists.{last-snoc, front-snoc}
+use Rattle.accord.proofs.Dims.{xed}
 use Rattle.accord.proofs.Inner.{listing, strides-split}
 use Rattle.accord.proofs.Hole.{theMark}
 use Rattle.strict.specs.Words.{choose}
@@ -36,7 +38,7 @@ use Rattle.strict.specs.Loose.{bare, around, Core, core, pointee, element-by, e
 use Rattle.skim.proofs.Steps as W
 use Rattle.skim.proofs.Steps.{further, onward, renamed, Word, table-of, chosen}
 use Rattle.skim.proofs.Holes.{kept, kept-comma, Listing, listed, lead, lead-white, lead-rest, lead-low}
-use Rattle.skim.proofs.Dims.{xed, plains, sans-x, xed-split, Dims, dims-of, dims}
+use Rattle.skim.proofs.Dims.{plains, sans-x, parts-split, Dims, dims-of, dims}
 
 abbrev pub any : ℕ → Bool
 any k = true
@@ -98,9 +100,10 @@ a-pointee z table h t = onward (Named t) (Pointee z t) t (λ w r. mapped (core t
     }))
 
 -- ── what stands behind the dimensions of a tile ──
-pub data Element (odd : ℕ) (t : Text) (c : Core) (r : Text) : Type 0 where
-  plain : (n : Named t (c .word) (bytes ">" ++ r)) → c .pointer ≡ false → c .marked ≡ false → Element odd t c r
-  pointer : (b : Bool) (s : Text) → odd ≡ 0 → cuda b ++ (bytes "ptr<" ++ s) ≡ t → Pointee (bytes ">>") s c r → Element odd t c r
+-- firm: the dimensions before it are
+pub data Element (firm : Bool) (t : Text) (c : Core) (r : Text) : Type 0 where
+  plain : (n : Named t (c .word) (bytes ">" ++ r)) → c .pointer ≡ false → c .marked ≡ false → Element firm t c r
+  pointer : (b : Bool) (s : Text) → T firm → cuda b ++ (bytes "ptr<" ++ s) ≡ t → Pointee (bytes ">>") s c r → Element firm t c r
 
 abbrev kern : ℕ → Text
 kern k = cond (ltb k 22) (name-by k) (cuda (eqb k 23) ++ bytes "ptr<")
@@ -115,37 +118,38 @@ bare-same t e = ap (λ (u : Text). u ++ bare t) (sym (nil-of (lead t) none-led))
     none-led : length (lead t) ≡ 0
     none-led = let q : length (lead t) + length (bare t) ≡ length t = sym (length-append (lead t) (bare t)) ∙ ap length (lead-rest t) in omega arith
 
-an-element : (odd : ℕ) (t : Text) → W.Walk t (Element odd t) (element odd t)
+an-element : (firm : Bool) (t : Text) → W.Walk t (Element firm t) (element firm t)
 unfolding element
-an-element odd t = further (Element odd t) t (bare t) (after (element-by odd t) (choose kerns (bare t))) (lead-low t)
-    (onward (Word kern any (bare t)) (Element odd t) (bare t) (element-by odd t) (choose kerns (bare t)) (chosen kern any kerns tt (bare t)) (λ k r w. by k r (ltb k 22) refl (w .is)))
+an-element firm t = further (Element firm t) t (bare t) (after (element-by firm t) (choose kerns (bare t))) (lead-low t)
+    (onward (Word kern any (bare t)) (Element firm t) (bare t) (element-by firm t) (choose kerns (bare t)) (chosen kern any kerns tt (bare t)) (λ k r w. by k r (ltb k 22) refl (w .is)))
   where
-    ended : (k : ℕ) (r : Text) → Named t k (bare r) → (x : Text) → bytes ">" ++ x ≡ bare r → Element odd t (core false k 0) x
+    ended : (k : ℕ) (r : Text) → Named t k (bare r) → (x : Text) → bytes ">" ++ x ≡ bare r → Element firm t (core false k 0) x
     ended k r n x e = plain (subst (Named t k) (sym e) n) refl refl
 
-    on : (k : ℕ) (r : Text) (a b : Bool) → eqb odd 0 ≡ a → eqb (length (bare t)) (length t) ≡ b → cuda (eqb k 23) ++ (bytes "ptr<" ++ r) ≡ bare t →
-        W.Walk r (Element odd t) (cond (a && b) (pointee close-both r) (stuck r))
-    on k r true true p q e = W.weaker (Pointee (bytes ">>") r) (Element odd t) r (pointee close-both r)
-        (λ c x w. pointer (eqb k 23) r (eqb-true odd 0 p) (e ∙ bare-same t (eqb-true (length (bare t)) (length t) q)) w) (a-pointee (bytes ">>") close-both tt r)
+    on : (k : ℕ) (r : Text) (a b : Bool) → firm ≡ a → eqb (length (bare t)) (length t) ≡ b → cuda (eqb k 23) ++ (bytes "ptr<" ++ r) ≡ bare t →
+        W.Walk r (Element firm t) (cond (a && b) (pointee close-both r) (stuck r))
+    on k r true true p q e = W.weaker (Pointee (bytes ">>") r) (Element firm t) r (pointee close-both r)
+        (λ c x w. pointer (eqb k 23) r (subst T (sym p) tt) (e ∙ bare-same t (eqb-true (length (bare t)) (length t) q)) w) (a-pointee (bytes ">>") close-both tt r)
     on k r true false p q e = tt
     on k r false b p q e = tt
 
     by : (k : ℕ) (r : Text) (b : Bool) → ltb k 22 ≡ b → cond b (name-by k) (cuda (eqb k 23) ++ bytes "ptr<") ++ r ≡ bare t →
-        W.Walk r (Element odd t) (cond b (mapped (λ (j : ℕ). core false k 0) (choose (bytes ">|") (bare r))) (cond (eqb odd 0 && eqb (length (bare t)) (length t)) (pointee close-both r) (stuck r)))
-    by k r true q e = further (Element odd t) r (bare r) (mapped (λ (j : ℕ). core false k 0) (choose (bytes ">|") (bare r))) (lead-low r)
-        (renamed (Word (λ j. bytes ">") any (bare r)) (Element odd t) (bare r) (λ (j : ℕ). core false k 0) (choose (bytes ">|") (bare r)) (chosen (λ j. bytes ">") any (bytes ">|") tt (bare r))
+        W.Walk r (Element firm t) (cond b (mapped (λ (j : ℕ). core false k 0) (choose (bytes ">|") (bare r))) (cond (firm && eqb (length (bare t)) (length t)) (pointee close-both r) (stuck r)))
+    by k r true q e = further (Element firm t) r (bare r) (mapped (λ (j : ℕ). core false k 0) (choose (bytes ">|") (bare r))) (lead-low r)
+        (renamed (Word (λ j. bytes ">") any (bare r)) (Element firm t) (bare r) (λ (j : ℕ). core false k 0) (choose (bytes ">|") (bare r)) (chosen (λ j. bytes ">") any (bytes ">|") tt (bare r))
         (λ j x w. ended k r (name-around t r k (subst T (sym q) tt) e) x (w .is)))
-    by k r false q e = on k r (eqb odd 0) (eqb (length (bare t)) (length t)) refl refl (sym (append-assoc (cuda (eqb k 23)) (bytes "ptr<") r) ∙ e)
+    by k r false q e = on k r firm (eqb (length (bare t)) (length t)) refl refl (sym (append-assoc (cuda (eqb k 23)) (bytes "ptr<") r) ∙ e)
 
 pub record TileAt (t : Text) (a : Tiled) (r : Text) : Type 0 where
   pub behind : Text
   pub dims : Dims t (a .shape) behind
-  pub element : Element (a .shape .fell) behind (a .core) r
+  pub element : Element (firm (dims .parts)) behind (a .core) r
 
 pub a-tile : (t : Text) → W.Walk t (TileAt t) (tile t)
 unfolding tile
-a-tile t = onward (Dims t) (TileAt t) t (λ (l : Laid) r. mapped (tiled l) (element (l .fell) r)) (shape t) (dims t) (λ l r d.
-    renamed (Element (l .fell) r) (TileAt t) r (tiled l) (element (l .fell) r) (an-element (l .fell) r) (λ c x e. record { behind = r; dims = d; element = e }))
+a-tile t = onward (Dims t) (TileAt t) t (λ (l : Laid) r. mapped (tiled l) (element (firm (front (parts true t))) r)) (shape t) (dims t) (λ l r d.
+    renamed (Element (firm (front (parts true t))) r) (TileAt t) r (tiled l) (element (firm (front (parts true t))) r) (an-element (firm (front (parts true t))) r)
+    (λ c x e. record { behind = r; dims = d; element = subst (λ (ps : List Text). Element (firm ps) r c x) (sym (d .from)) e }))
 
 -- ── a tensor view ──
 pub record BodyAt (t : Text) (b : Walk.Body) (r : Text) : Type 0 where
@@ -164,7 +168,7 @@ pub parted : (ps : List Text) → T (plains ps) → (v : Text) → T (every sans
     tensor-parts (xed ps ⊕ v) o ≡ some (tensor-of ps o (scalar k))
 unfolding tensor-parts
 parted ps h v n o k e =
-    ap (λ (l : List Text). each (tensor-of (front l) o) (scalar-name (last l))) (xed-split ps h v n)
+    ap (λ (l : List Text). each (tensor-of (front l) o) (scalar-name (last l))) (parts-split ps h v n)
     ∙ (λ i. each (tensor-of (front-snoc ps v i) o) (scalar-name (last-snoc ps v i))) ∙ ap (each (tensor-of ps o)) e
 
 abbrev opener : ℕ → Text

@@ -4,8 +4,8 @@ use mathlib.Core.Bool.{Bool, true, false, _&&_}
 use mathlib.Core.List.{List, [], _∷_}
 use mathlib.Core.Logic.{_⊎_, inl, inr}
 use mathlib.Core.Option.{some}
-use mathlib.Core.Path.{_≡_, refl, sym, ap, _∙_}
-use lib.Dec.{leb}
+use mathlib.Core.Path.{_≡_, refl, subst, sym, ap, _∙_}
+use lib.Dec.{T, leb}
 use lib.IntN.{ℤ, pos}
 use lib.ListN.{length, getD}
 use Rattle.lexis.specs.Text.{Text, trim, if_then_else_}
@@ -16,7 +16,7 @@ use Rattle.meaning.specs.Ordinary.{refused, accepted, judged, read-ascii, ordin
 use Rattle.grammar.specs.Piece.{Answer, got, stuck}
 use Rattle.lists.specs.Laid.{Laid}
 use Rattle.strict.specs.Loose as Walk
-use Rattle.strict.specs.Loose.{fits, answered, whole, loosely, skimmed}
+use Rattle.strict.specs.Loose.{fits, answered, ended, whole, loosely, skimmed}
 use Rattle.skim.proofs.Shown.{Sees}
 use Rattle.skim.proofs.Walked.{walked, low}
 
@@ -68,10 +68,14 @@ pub skim-right : (s : Text) → (skimmed s ≡ refused 8 NotStrict 0) ⊎ (skimm
 unfolding skimmed ordinary
 skim-right s = by (leb (length s) 1024)
   where
+    to : (e : Walk.Found) (r : Text) → loosely (trim s) ≡ got e r → (k : Bool) → ended (e .kind) r ≡ k →
+        ((if k then answered e else refused 8 NotStrict 0) ≡ refused 8 NotStrict 0) ⊎ ((if k then answered e else refused 8 NotStrict 0) ≡ read-ascii 8 s (high-from 0 s))
+    to e r q true n = let h : T (ended (e .kind) r) = subst T (sym n) tt in let m = walked (trim s) e r q h in
+        inr (answer-is e (m .type) (m .sees) ∙ ap (judged 8) (sym (m .parsed s refl)) ∙ ap (read-ascii 8 s) (sym (low (trim s) e r q h s refl)))
+    to e r q false n = inl refl
+
     seen : (p : Answer Walk.Found) → loosely (trim s) ≡ p → (whole p ≡ refused 8 NotStrict 0) ⊎ (whole p ≡ read-ascii 8 s (high-from 0 s))
-    seen (got e []) q = let m = walked (trim s) e q in
-        inr (answer-is e (m .type) (m .sees) ∙ ap (judged 8) (sym (m .parsed s refl)) ∙ ap (read-ascii 8 s) (sym (low (trim s) e q s refl)))
-    seen (got e (c ∷ r)) q = inl refl
+    seen (got e r) q = to e r q (ended (e .kind) r) refl
     seen (stuck r) q = inl refl
 
     by : (k : Bool) → ((if k then whole (loosely (trim s)) else refused 8 TooLong 0) ≡ refused 8 NotStrict 0)

@@ -19,7 +19,7 @@ use Rattle.grammar.specs.Piece.{Answer, got, stuck}
 use Rattle.grammar.specs.Join.{mapped, after}
 use Rattle.grammar.specs.Whole.{glue-more}
 use Rattle.lists.specs.Laid.{Laid, laid}
-use Rattle.lists.specs.Next.{stop, sep, other, hole}
+use Rattle.lists.specs.Next.{stop, sep, other, hole, by-x}
 use Rattle.accord.proofs.Num.{every-mono}
 use Rattle.accord.proofs.Shape.{run, all}
 use Rattle.accord.proofs.Forms.{Of, over, loose, with-comma, with-both, list-shape, Travel, travel, Ending, ending}
@@ -30,7 +30,7 @@ use Rattle.strict.specs.Words.{choose}
 use Rattle.strict.specs.Plain.{padding}
 use Rattle.strict.specs.Views.{pads, leads, mids, walk-mids, maps, sparses, travels}
 use Rattle.strict.specs.Loose as Walk
-use Rattle.strict.specs.Loose.{list, tiles, by-x, smalls, one, May, may, nothing, or-fill, Seen, seen, led, sight, mid, tensor}
+use Rattle.strict.specs.Loose.{list, tiles, smalls, one, May, may, nothing, or-fill, Seen, seen, led, sight, mid, tensor}
 use Rattle.skim.proofs.Steps as W
 use Rattle.skim.proofs.Steps.{ascii, further, onward, renamed, Word, chosen}
 use Rattle.skim.proofs.Holes.{plain, kept, kept-low, kept-both, kept-comma, plain-loose, plain-low, until-rest, until-class, fore, Listing, listed}
@@ -42,7 +42,7 @@ found-later c nowhere h = h
 found-later c (at u t) h = h
 
 -- the first structural byte is an `x`, so that the hole has one
-has-x : (t : Text) → T (by-x t) → T (occurs (bytes "x") (hole true t))
+has-x : (t : Text) → T (by-x true t) → T (occurs (bytes "x") (hole true t))
 has-x [] h = absurd h
 has-x (c ∷ t) h = go (stop c) (has-x t) h
   where
@@ -57,7 +57,7 @@ has-x (c ∷ t) h = go (stop c) (has-x t) h
     on true h = tt
     on false h = found-later c (cut (bytes "x") (hole true t)) h
 
-    go : (k : Bool) → (T (by-x t) → T (occurs (bytes "x") (hole true t))) →
+    go : (k : Bool) → (T (by-x true t) → T (occurs (bytes "x") (hole true t))) →
         T (eqb (getD (c ∷ t) (length (if k then [] else c ∷ until stop t)) 0) 120) → T (occurs (bytes "x") (if k && not (eqb c 120) then [] else c ∷ hole true t))
     go true f h = at-x true h
     go false f h = on (eqb 120 c) (f h)
@@ -67,16 +67,16 @@ pub record TileList (t : Text) (l : Laid) (r : Text) : Type 0 where
   pub is : tile .text ++ r ≡ t
   pub row : l ≡ laid 8 (stands (tile-entries (tile .text)))
 
-parted : (t : Text) (x : Bool) → by-x t ≡ x → L.map (small (pos 1)) (split (sep x) (hole x t)) ≡ tile-entries (hole x t)
+parted : (t : Text) (x : Bool) → by-x true t ≡ x → L.map (small (pos 1)) (split (sep x) (hole x t)) ≡ tile-entries (hole x t)
 unfolding tile-entries
 parted t true e = ap (λ (k : Bool). L.map (small (pos 1)) (split (if k then 120 else 44) (hole true t))) (sym (is-true (occurs (bytes "x") (hole true t)) (has-x t (subst T (sym e) tt))))
 parted t false e = ap (λ (k : Bool). L.map (small (pos 1)) (split (if k then 120 else 44) (hole false t)))
     (sym (hasn't (bytes "x") (all {C = with-comma} {t = hole false t} (every-mono (kept false) with-comma kept-comma (hole false t) (until-class (other false) t))) tt))
 
 pub a-tile-list : (t : Text) → W.Walk t (TileList t) (tiles t)
-a-tile-list t = go (by-x t) refl
+a-tile-list t = go (by-x true t) refl
   where
-    go : (x : Bool) → by-x t ≡ x → W.Walk t (TileList t) (list (small (pos 1)) x t)
+    go : (x : Bool) → by-x true t ≡ x → W.Walk t (TileList t) (list (small (pos 1)) x t)
     go x e = (
       record {
         tile = over (hole x t) (every-mono (kept x) with-both (kept-both x) (hole x t) (until-class (other x) t));

@@ -4,6 +4,7 @@ use mathlib.Core.Bool.{Bool, true, false, cond, not, _&&_}
 use mathlib.Core.List.{[], _∷_, _++_}
 use mathlib.Core.Option.{Option, none, some}
 use mathlib.Core.Path.{_≡_, refl, ap, _∙_}
+use lib.Dec.{T}
 use lib.IntN.{pos}
 use lib.ListN.{length, length-map, replicate}
 use Rattle.lexis.specs.Text.{Text, bytes}
@@ -29,12 +30,12 @@ use Rattle.accord.proofs.Skeleton.{Views, opening, views, view-read}
 use Rattle.accord.proofs.Skeleton as S
 use Rattle.strict.specs.Whole.{kind-by}
 use Rattle.strict.specs.Loose as Walk
-use Rattle.strict.specs.Loose.{May, Seen, or-fill, sight, mid, tiles}
+use Rattle.strict.specs.Loose.{May, Seen, or-fill, sight, mid, tiles, ended}
 use Rattle.skim.proofs.Steps as W
 use Rattle.skim.proofs.Steps.{onward, renamed, Word}
 use Rattle.skim.proofs.Sights.{TileList, a-tile-list, TravelAt, a-travel, SightAt, a-sight, bracket, mid-word, a-mid, EndAt, MapSays, SparseSays, FrontAt, front-at}
 use Rattle.skim.proofs.Inside.{any}
-use Rattle.skim.proofs.Shown.{Alike, attached, Shown, none-left}
+use Rattle.skim.proofs.Shown.{Alike, attached, Shown, left}
 
 -- ── the walk over a view; p: it is a partition view, g: it is no strided view ──
 abbrev pub found-by : Bool → Bool → Laid → May → Seen → May → Walk.Found
@@ -69,7 +70,7 @@ through C b sparse end f Q t g =
 
 -- ── a view with its parts ──
 module _ (b : Bool) (k : Views) (t s : Text) (C : Ending → May → Type 0) (l : Laid) (w : May) (v : Seen) (m : May) (z r : Text)
-    (head : cuda b ++ (opening (views k) ++ (bytes "tile=(" ++ s)) ≡ t) (fr : FrontAt s l w v z) (en : EndAt C z m r) (left : r ≡ []) where
+    (head : cuda b ++ (opening (views k) ++ (bytes "tile=(" ++ s)) ≡ t) (fr : FrontAt s l w v z) (en : EndAt C z m r) where
   abbrev shaped : View
   shaped = record { tile = fr .tile; space = fr .space; travel = fr .walk; padding = fr .pads; intro = fr .intro; tensor = fr .body .body; ending = en .end }
 
@@ -77,16 +78,16 @@ module _ (b : Bool) (k : Views) (t s : Text) (C : Ending → May → Type 0) (l 
   meant = record { tile = tile-entries (fr .tile .text); tensor = fr .body .tensor; padding = padsOf (fr .pads) }
 
   abbrev theText : Text
-  theText = cuda b ⊕ opening (views k) ⊕ Forms.view shaped (may (fr .body .mark) theMark) ⊕ bytes ">"
+  theText = cuda b ⊕ opening (views k) ⊕ Forms.view shaped (may (fr .body .mark) theMark) ⊕ bytes ">" ⊕ r
 
   spelt : theText ≡ t
   spelt =
       ap (λ (u : Text). cuda b ++ (opening (views k) ++ u))
       (glue-more (bytes "tile=(" ∷ fr .tile .text ∷ bytes ")" ∷ comma (fr .space) ∷ Forms.travel (fr .walk) ∷ Form.padText (fr .pads) ∷ Form.introText (fr .intro) ∷ bytes "tensor_view<" ∷ Forms.body (fr .body .body) (may (fr .body .mark) theMark) ∷ bytes ">" ∷ [])
-      (Forms.ending (en .end)) (bytes ">")
+      (Forms.ending (en .end)) (bytes ">" ++ r)
       ∙ ap (λ (u : Text). bytes "tile=(" ++ u)
       (ap (λ (u : Text). fr .tile .text ++ (bytes ")" ++ (comma (fr .space) ++ (Forms.travel (fr .walk) ++ (Form.padText (fr .pads) ++ (Form.introText (fr .intro) ++ (bytes "tensor_view<" ++ u)))))))
-      (ap (λ (u : Text). Forms.body (fr .body .body) (may (fr .body .mark) theMark) ++ (bytes ">" ++ u)) (none-left (λ (u : Text). Forms.ending (en .end) ++ (bytes ">" ++ u)) (en .is) left) ∙ fr .body .is)
+      (ap (λ (u : Text). Forms.body (fr .body .body) (may (fr .body .mark) theMark) ++ (bytes ">" ++ u)) (en .is) ∙ fr .body .is)
       ∙ fr .is))
       ∙ head
 
@@ -97,13 +98,13 @@ module _ (b : Bool) (k : Views) (t s : Text) (C : Ending → May → Type 0) (l 
   count : l .len ≡ length (meant .tile)
   count = ap (λ (q : Laid). q .len) (fr .row) ∙ length-map (meant .tile) value
 
-  shown : (e : Walk.Found) (f : Found) → view-read k shaped ≡ some f → Alike e f → e .marked ≡ fr .body .mark → f .attribute ≡ false → Shown t e
-  shown e f q a p n = record {
-    skeleton = S.view b k shaped (fr .body .mark);
+  shown : (e : Walk.Found) (f : Found) → view-read k shaped ≡ some f → Alike e f → e .marked ≡ fr .body .mark → f .attribute ≡ false → T (ended (e .kind) r) → Shown t e
+  shown e f q a p o n = record {
+    skeleton = S.view b k shaped (fr .body .mark) (left (e .kind) r n);
     spelt = spelt;
     type = attach (fr .body .mark) f;
     reads = ap (each (attach (fr .body .mark))) q;
-    sees = attached (fr .body .mark) a p n;
+    sees = attached (fr .body .mark) a p o;
   }
 
 -- ── the three ──
@@ -113,15 +114,15 @@ partition-is v (Ending.map s l) = refl
 partition-is v (Ending.sparse s e) = refl
 
 module _ (b : Bool) (t s : Text) (l : Laid) (w : May) (v : Seen) (m : May) (z r : Text) where
-  map-is : (k : Views) (fr : FrontAt s l w v z) (en : EndAt MapSays z m r) (head : cuda b ++ (opening (views k) ++ (bytes "tile=(" ++ s)) ≡ t) (left : r ≡ []) →
-      or-fill (filled (count-up 0 (l .len))) m ≡ laid 8 (M.list-or (M.own-map (meant b k t s MapSays l w v m z r head fr en left)) (O.mapped (en .end)))
-  map-is k fr en head left = en .says (filled (count-up 0 (l .len))) ∙ ap (λ (n : ℕ). laid 8 (M.list-or (filled (count-up 0 n)) (O.mapped (en .end)))) (count b k t s MapSays l w v m z r head fr en left)
+  map-is : (k : Views) (fr : FrontAt s l w v z) (en : EndAt MapSays z m r) (head : cuda b ++ (opening (views k) ++ (bytes "tile=(" ++ s)) ≡ t) →
+      or-fill (filled (count-up 0 (l .len))) m ≡ laid 8 (M.list-or (M.own-map (meant b k t s MapSays l w v m z r head fr en)) (O.mapped (en .end)))
+  map-is k fr en head = en .says (filled (count-up 0 (l .len))) ∙ ap (λ (n : ℕ). laid 8 (M.list-or (filled (count-up 0 n)) (O.mapped (en .end)))) (count b k t s MapSays l w v m z r head fr en)
 
-  pub partition-shown : cuda b ++ (bytes "partition_view<tile=(" ++ s) ≡ t → FrontAt s l w v z → EndAt MapSays z m r → r ≡ [] → Shown t (found-by true true l w v m)
+  pub partition-shown : cuda b ++ (bytes "partition_view<tile=(" ++ s) ≡ t → FrontAt s l w v z → EndAt MapSays z m r → T (ended K.Partition r) → Shown t (found-by true true l w v m)
   unfolding M.view-of made
-  partition-shown head fr en left = shown b S.partition t s MapSays l w v m z r head fr en left (found-by true true l w v m)
+  partition-shown head fr en n = shown b S.partition t s MapSays l w v m z r head fr en (found-by true true l w v m)
       (M.view-of K.Partition (M.list-or (M.own-map g) (O.mapped (en .end))) unused unused g)
-      (ap (M.partition-from (O.mapped (en .end))) (viewed b S.partition t s MapSays l w v m z r head fr en left) ∙ partition-is g (en .end))
+      (ap (M.partition-from (O.mapped (en .end))) (viewed b S.partition t s MapSays l w v m z r head fr en) ∙ partition-is g (en .end))
       (record {
         kind = refl;
         element = fr .body .element;
@@ -129,20 +130,20 @@ module _ (b : Bool) (t s : Text) (l : Laid) (w : May) (v : Seen) (m : May) (z r 
         shape = fr .body .shape;
         strides = fr .body .strides;
         tile = fr .row;
-        map = map-is S.partition fr en head left;
+        map = map-is S.partition fr en head;
         walk = refl;
         sparse = refl;
         pads = fr .padded;
-      }) (fr .body .marked) refl
+      }) (fr .body .marked) refl n
     where
       g : M.View
-      g = meant b S.partition t s MapSays l w v m z r head fr en left
+      g = meant b S.partition t s MapSays l w v m z r head fr en
 
-  pub gather-shown : cuda b ++ (bytes "gather_scatter_view<tile=(" ++ s) ≡ t → FrontAt s l w v z → EndAt SparseSays z m r → r ≡ [] → Shown t (found-by false true l w v m)
+  pub gather-shown : cuda b ++ (bytes "gather_scatter_view<tile=(" ++ s) ≡ t → FrontAt s l w v z → EndAt SparseSays z m r → T (ended K.GatherScatter r) → Shown t (found-by false true l w v m)
   unfolding M.view-of made
-  gather-shown head fr en left = shown b S.gather t s SparseSays l w v m z r head fr en left (found-by false true l w v m)
-      (M.view-of K.GatherScatter unused unused (sparse-found (en .end)) (meant b S.gather t s SparseSays l w v m z r head fr en left))
-      (ap (each (M.view-of K.GatherScatter unused unused (sparse-found (en .end)))) (viewed b S.gather t s SparseSays l w v m z r head fr en left))
+  gather-shown head fr en n = shown b S.gather t s SparseSays l w v m z r head fr en (found-by false true l w v m)
+      (M.view-of K.GatherScatter unused unused (sparse-found (en .end)) (meant b S.gather t s SparseSays l w v m z r head fr en))
+      (ap (each (M.view-of K.GatherScatter unused unused (sparse-found (en .end)))) (viewed b S.gather t s SparseSays l w v m z r head fr en))
       (record {
         kind = refl;
         element = fr .body .element;
@@ -154,13 +155,13 @@ module _ (b : Bool) (t s : Text) (l : Laid) (w : May) (v : Seen) (m : May) (z r 
         walk = refl;
         sparse = en .says;
         pads = fr .padded;
-      }) (fr .body .marked) refl
+      }) (fr .body .marked) refl n
 
-  pub strided-shown : cuda b ++ (bytes "strided_view<tile=(" ++ s) ≡ t → FrontAt s l w v z → EndAt MapSays z m r → r ≡ [] → Shown t (found-by false false l w v m)
+  pub strided-shown : cuda b ++ (bytes "strided_view<tile=(" ++ s) ≡ t → FrontAt s l w v z → EndAt MapSays z m r → T (ended K.Strided r) → Shown t (found-by false false l w v m)
   unfolding M.strided-of M.view-of made
-  strided-shown head fr en left = shown b S.strided t s MapSays l w v m z r head fr en left (found-by false false l w v m)
-      (M.strided-of (O.mapped (en .end)) (travelled (fr .walk)) (meant b S.strided t s MapSays l w v m z r head fr en left))
-      (ap (each (M.strided-of (O.mapped (en .end)) (travelled (fr .walk)))) (viewed b S.strided t s MapSays l w v m z r head fr en left))
+  strided-shown head fr en n = shown b S.strided t s MapSays l w v m z r head fr en (found-by false false l w v m)
+      (M.strided-of (O.mapped (en .end)) (travelled (fr .walk)) (meant b S.strided t s MapSays l w v m z r head fr en))
+      (ap (each (M.strided-of (O.mapped (en .end)) (travelled (fr .walk)))) (viewed b S.strided t s MapSays l w v m z r head fr en))
       (record {
         kind = refl;
         element = fr .body .element;
@@ -168,9 +169,9 @@ module _ (b : Bool) (t s : Text) (l : Laid) (w : May) (v : Seen) (m : May) (z r 
         shape = fr .body .shape;
         strides = fr .body .strides;
         tile = fr .row;
-        map = map-is S.strided fr en head left;
+        map = map-is S.strided fr en head;
         walk = fr .walks (filled (replicate (l .len) (pos 1)))
-            ∙ ap (λ (n : ℕ). laid 8 (M.list-or (filled (replicate n (pos 1))) (travelled (fr .walk)))) (count b S.strided t s MapSays l w v m z r head fr en left);
+            ∙ ap (λ (n : ℕ). laid 8 (M.list-or (filled (replicate n (pos 1))) (travelled (fr .walk)))) (count b S.strided t s MapSays l w v m z r head fr en);
         sparse = refl;
         pads = fr .padded;
-      }) (fr .body .marked) refl
+      }) (fr .body .marked) refl n

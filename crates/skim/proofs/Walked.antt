@@ -1,11 +1,12 @@
--- A text that is walked to its end is read by the ordinary definition as the walk reads it, by the skeleton that it is; and it is ASCII.
+-- A text that is walked to its end, or to quiet bytes behind its brackets, is read by the ordinary definition as the walk reads it, by the
+-- skeleton that it is; and it is ASCII.
 use Prim.Native.Nat.{ℕ, suc}
 use native.Mathlib.Omega.{arith}
 use mathlib.Core.Bool.{Bool, true, false, cond, not, _&&_, _||_}
 use mathlib.Core.List.{[], _∷_, _++_, append-assoc}
 use mathlib.Core.Option.{none, some}
 use mathlib.Core.Path.{_≡_, refl, subst, sym, ap, _∙_}
-use lib.Dec.{T, eqb, ltb, leb}
+use lib.Dec.{T, eqb, ltb, leb, leb→le, ltb→lt, not-T}
 use borrow.Author.Tests.{ltb-true, lt-ltb}
 use Rattle.lexis.specs.Text.{Text, bytes, white, trim, less-leading, less-trailing, unless-last, if_then_else_}
 use Rattle.meaning.specs.declared.Kind.the-variants as K
@@ -20,13 +21,13 @@ use Rattle.strict.specs.Words.{choose}
 use Rattle.strict.specs.Inner.{close}
 use Rattle.strict.specs.Whole.{heads}
 use Rattle.strict.specs.Loose as Walk
-use Rattle.strict.specs.Loose.{simple, pointee, tile, tensor, view, from-head, loosely}
+use Rattle.strict.specs.Loose.{simple, pointee, tile, tensor, view, from-head, loosely, quiet, ended}
 use Rattle.skim.proofs.Steps as W
 use Rattle.skim.proofs.Steps.{ascii, onward, renamed, Word, chosen}
 use Rattle.skim.proofs.Holes.{white-low, lead-low}
 use Rattle.skim.proofs.Inside.{any, Pointee, a-pointee, TileAt, a-tile, BodyAt, a-tensor}
 use Rattle.skim.proofs.Sights.{MapSays, SparseSays, a-map-end, a-sparse-end}
-use Rattle.skim.proofs.Shown.{Sees, Shown, scalar-shown, token-shown, pointer-shown, tile-shown, tensor-shown}
+use Rattle.skim.proofs.Shown.{Sees, Shown, left-class, scalar-shown, token-shown, pointer-shown, tile-shown, tensor-shown}
 use Rattle.skim.proofs.Viewed.{found-by, viewing, through, partition-shown, gather-shown, strided-shown}
 
 -- ── by the first word ──
@@ -46,7 +47,7 @@ head k =
 
 module _ (t : Text) where
   abbrev Whole : Walk.Found → Text → Type 0
-  Whole e r = r ≡ [] → Shown t e
+  Whole e r = T (ended (e .kind) r) → Shown t e
 
   view-walk : (b p g : Bool) → (p ≡ true → g ≡ true) → (r : Text) → cuda b ++ (view-word p g ++ r) ≡ t → W.Walk r Whole (viewing (not g) (g && not p) (found-by p g) r)
   view-walk b true true i r e = through MapSays false false a-map-end (found-by true true) Whole r (λ l w v m z q fr en. partition-shown b t r l w v m z q e fr en)
@@ -87,15 +88,15 @@ pub record Meant (t : Text) (e : Walk.Found) : Type 0 where
   pub parsed : (s : Text) → trim s ≡ t → parse s ≡ some type
   pub sees : Sees e type
 
-pub walked : (t : Text) (e : Walk.Found) → loosely t ≡ got e [] → Meant t e
-walked t e q = record {
+pub walked : (t : Text) (e : Walk.Found) (r : Text) → loosely t ≡ got e r → T (ended (e .kind) r) → Meant t e
+walked t e r q n = record {
   type = s .type;
   parsed = λ u h. skeleton-reads (s .skeleton) .parsed u (h ∙ sym (s .spelt)) ∙ s .reads;
   sees = s .sees;
 }
   where
     s : Shown t e
-    s = subst (W.Walk t (Whole t)) q (whole t) .0 refl
+    s = subst (W.Walk t (Whole t)) q (whole t) .0 n
 
 -- ── ASCII ──
 trail-low : (s : Text) → T (every ascii (less-trailing white s)) → T (every ascii s)
@@ -114,5 +115,9 @@ none-high : (k : ℕ) (s : Text) → T (every ascii s) → high-from k s ≡ non
 none-high k [] h = refl
 none-high k (c ∷ s) h = ap (λ (b : Bool). if b then some k else high-from (suc k) s) (T-not-eq (leb 128 c) (and-left (ascii c) (every ascii s) h)) ∙ none-high (suc k) s (and-right (ascii c) (every ascii s) h)
 
-pub low : (t : Text) (e : Walk.Found) → loosely t ≡ got e [] → (s : Text) → trim s ≡ t → high-from 0 s ≡ none
-low t e q s h = none-high 0 s (lead-low s (trail-low (less-leading white s) (subst (λ (u : Text). T (every ascii u)) (sym h) (subst (W.Walk t (Whole t)) q (whole t) .1 tt))))
+quiet-low : (c : ℕ) → T (quiet c) → T (ascii c)
+quiet-low c h = not-T (leb 128 c) (λ k. let q = leb→le 128 c k in let z = ltb→lt c 128 (and-left (ltb c 128) (not (eqb c 35)) h) in omega arith)
+
+pub low : (t : Text) (e : Walk.Found) (r : Text) → loosely t ≡ got e r → T (ended (e .kind) r) → (s : Text) → trim s ≡ t → high-from 0 s ≡ none
+low t e r q n s h = none-high 0 s (lead-low s (trail-low (less-leading white s) (subst (λ (u : Text). T (every ascii u)) (sym h)
+    (subst (W.Walk t (Whole t)) q (whole t) .1 (left-class ascii quiet-low (e .kind) r n)))))

@@ -23,7 +23,7 @@ use Rattle.grammar.specs.Join.{mapped, after}
 use Rattle.grammar.specs.Table as Table
 use Rattle.grammar.specs.Table.{advance, done, settle, pick}
 use Rattle.lists.specs.Laid.{Laid, laid}
-use Rattle.lists.specs.Next.{stop, hole, parts, sep, other}
+use Rattle.lists.specs.Next.{stop, hole, parts, sep, other, by-x, firm}
 use Rattle.lists.proofs.Bounds.{fell-within, filled-within, split-length, front-length}
 use Rattle.strict.specs.Words.{choose, entries}
 use Rattle.strict.specs.Inner.{names, kerns, close, close-both, brackets, opened}
@@ -125,15 +125,15 @@ pointee-good table t h =
     after-good Any Cored (λ w r. mapped (W.core true w) (choose table r)) (W.around names t) (around-good t h)
     (λ w r g u. mapped-good Any Cored (W.core true w) (choose table r) (choose-good table r g) (λ k v. tt))
 
-element-good : (odd : ℕ) (t : Text) → length t ≤ 1024 → Good Cored (W.element odd t)
+element-good : (last : Bool) (t : Text) → length t ≤ 1024 → Good Cored (W.element last t)
 unfolding W.element
-element-good odd t h =
-    after-good Any Cored (W.element-by odd t) (choose kerns (W.bare t)) (choose-good kerns (W.bare t) (bared t h))
+element-good last t h =
+    after-good Any Cored (W.element-by last t) (choose kerns (W.bare t)) (choose-good kerns (W.bare t) (bared t h))
     (λ w r g u.
     cond-good Cored (ltb w 22) (mapped (λ (k : ℕ). W.core false w 0) (choose (bytes ">|") (W.bare r)))
-    (cond (eqb odd 0 && eqb (length (W.bare t)) (length t)) (W.pointee close-both r) (stuck r))
+    (cond (last && eqb (length (W.bare t)) (length t)) (W.pointee close-both r) (stuck r))
     (mapped-good Any Cored (λ (k : ℕ). W.core false w 0) (choose (bytes ">|") (W.bare r)) (choose-good (bytes ">|") (W.bare r) (bared r g)) (λ k v. tt))
-    (cond-good Cored (eqb odd 0 && eqb (length (W.bare t)) (length t)) (W.pointee close-both r) (stuck r) (pointee-good close-both r g) tt))
+    (cond-good Cored (last && eqb (length (W.bare t)) (length t)) (W.pointee close-both r) (stuck r) (pointee-good close-both r g) tt))
 
 abbrev Tile-light : W.Tiled → Type 0
 Tile-light b = Light (b .shape)
@@ -141,8 +141,8 @@ Tile-light b = Light (b .shape)
 tile-good : (t : Text) → length t ≤ 1024 → Good Tile-light (W.tile t)
 unfolding W.tile
 tile-good t h =
-    after-good Light Tile-light (λ (l : Laid) r. mapped (W.tiled l) (W.element (l .fell) r)) (W.shape t) (shape-good t h)
-    (λ l r g u. mapped-good Cored Tile-light (W.tiled l) (W.element (l .fell) r) (element-good (l .fell) r g) (λ c v. u))
+    after-good Light Tile-light (λ (l : Laid) r. mapped (W.tiled l) (W.element (firm (front (parts true t))) r)) (W.shape t) (shape-good t h)
+    (λ l r g u. mapped-good Cored Tile-light (W.tiled l) (W.element (firm (front (parts true t))) r) (element-good (firm (front (parts true t))) r g) (λ c v. u))
 
 abbrev Body-light : W.Body → Type 0
 Body-light b = Light (b .shape) × Light (b .strides)
@@ -227,7 +227,7 @@ module _ (k : ℕ) where
   unfolding W.view
   view-good t h =
       after-good Light Bounded (λ l r. after (λ w x. after (λ j y. after (ends l w) (W.sight j y)) (W.mid (w .given) x)) (W.travel (not (ltb k 34)) r)) (W.tiles t)
-      (list-good (small (pos 1)) (W.by-x t) t h)
+      (list-good (small (pos 1)) (by-x true t) t h)
       (λ l r g a. after-good May-light Bounded (λ w x. after (λ j y. after (ends l w) (W.sight j y)) (W.mid (w .given) x)) (W.travel (not (ltb k 34)) r) (travel-good (not (ltb k 34)) r g)
       (λ w x i b. after-good Any Bounded (λ j y. after (ends l w) (W.sight j y)) (W.mid (w .given) x) (mid-good (w .given) x i)
       (λ j y m u. after-good Seen-light Bounded (ends l w) (W.sight j y) (sight-good j y m)

@@ -9,22 +9,22 @@ use borrow.Author.Tests.{le-leb, lt-leb, leb-true}
 use lib.Dec.{leb}
 use lib.IntN.{ℤ}
 use lib.ListN.{length, drop, getD, length-append, drop-of-length-le}
-use Rattle.lexis.specs.Text as T
-use Rattle.lexis.specs.Text.{Text, if_then_else_, until}
+use Rattle.lexis.specs.Text.{Text, if_then_else_}
 use Rattle.scalars.specs.declared.scalar.Scalar.{Scalar}
 use Rattle.lists.proofs.Laying.{slot}
 use Rattle.meaning.specs.declared.Padding.{Padding}
 use Rattle.meaning.specs.declared.Reading.{Reading}
 use Rattle.meaning.specs.declared.Refusal.the-variants.{Accepted, TooLong, HighByte, NotStrict, TooMany}
 use Rattle.meaning.specs.Found.{padded}
+use Rattle.meaning.specs.Refusals.{number}
 use Rattle.meaning.specs.Ordinary.{high-from, refused}
-use Rattle.meaning.specs.Meant.{Any, fits, flat-any, taken, Judged, not-strict, Read-ascii, Strictly}
+use Rattle.meaning.specs.Meant.{Any, fits, flat-any, taken, Strictly}
 use Rattle.meaning.specs.Strict.{nth}
 use Rattle.grammar.specs.Piece.{Answer, got, stuck}
 use Rattle.grammar.specs.Join.{mapped}
 use Rattle.grammar.specs.Whole as G
 use Rattle.grammar.proofs.Answer.{judge, answer, answer-ascii, answer-right}
-use Rattle.grammar.proofs.Printed.{outside-loose}
+use Rattle.grammar.proofs.Printed.{strict-low}
 use Rattle.strict.specs.Cursor.{valued}
 use Rattle.strict.specs.Lists.{Row, nothing, pushes}
 use Rattle.strict.specs.Whole as W
@@ -169,11 +169,15 @@ module _ (s : Text) {r : Reading} where
   pub read-on : Bridge → length s ≤ 1024 → high-from 0 s ≡ none → r ≡ P.judged (mapped P.said (W.whole s)) → r ≡ answer 8 1024 s
   read-on bridge h k e = ascii h (e ∙ sym (ap P.judged (bridge s)) ∙ judged-is (G.read s) ∙ sym (ap (answer-ascii 8 s) k))
 
-  -- a byte outside 32 to 127 that is not high
-  pub outside : length s ≤ 1024 → high-from 0 s ≡ none → (length (until (T.outside 32 127) s) ≡ length s → ⊥) → r ≡ refused 8 NotStrict 0 → Strictly 8 1024 s r
-  outside h k o e =
-      subst (λ (b : Bool). Limited b (high-from 0 s)) (sym (le-leb (length s) 1024 h))
-      (subst (λ (p : Option ℕ). Read-ascii 8 s p r) (sym k) (subst (Judged 8 s) (sym e) (not-strict (outside-loose s o))))
+  -- what is accepted is a strict form, and has no high byte
+  pub taken-on : Bridge → length s ≤ 1024 → number (r .refusal) ≡ 0 → r ≡ P.judged (mapped P.said (W.whole s)) → r ≡ answer 8 1024 s
+  unfolding refused
+  taken-on bridge h n e = read-on bridge h (low (G.read s) refl (ap (λ (x : Reading). number (x .refusal)) (sym (e ∙ sym (ap P.judged (bridge s)) ∙ judged-is (G.read s))) ∙ n)) e
     where
-      Limited : Bool → Option ℕ → Type 0
-      Limited b p = elim b as (λ _. Type 0) [ true ↦ Read-ascii 8 s p r | false ↦ r ≡ refused 8 TooLong 0 ]
+      five : _≡_ {A = ℕ} 5 0 → ⊥
+      five z = omega arith
+
+      low : (p : Answer Any) → G.read s ≡ p → number (judge 8 p .refusal) ≡ 0 → high-from 0 s ≡ none
+      low (got a []) q z = strict-low s a (G.strict-sound s a q)
+      low (got a (c ∷ x)) q z = absurd (five z)
+      low (stuck x) q z = absurd (five z)

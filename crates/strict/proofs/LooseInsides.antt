@@ -3,7 +3,7 @@ use Prim.Native.Nat.{ℕ, _+_, _-_, _≤_, _<_}
 use native.Mathlib.Omega.{arith}
 use mathlib.Core.Bool.{Bool, true, false, cond, _&&_}
 use mathlib.Core.List.{List}
-use mathlib.Core.Path.{_≡_, refl, ap, subst, _∙_}
+use mathlib.Core.Path.{_≡_, refl, sym, ap, subst, _∙_}
 use lib.Dec.{eqb, leb, ltb}
 use lib.ListN.{drop, length, replicate, length-drop}
 use borrow.Author.Tests.{eq-eqb, ne-eqb, eqb-true, eqb-false, leb-true}
@@ -12,7 +12,9 @@ use Rattle.meaning.specs.Found.{filled}
 use Rattle.meaning.specs.Tile.{DYNAMIC, dimension}
 use Rattle.grammar.specs.Piece.{Answer, got, stuck, left}
 use Rattle.grammar.specs.Join.{mapped, after}
+use Rattle.meaning.specs.Parts.{front}
 use Rattle.lists.specs.Laid.{Laid, laid}
+use Rattle.lists.specs.Next.{parts, firm}
 use Rattle.strict.specs.Cursor.{Told, valued, place, stuck-at}
 use Rattle.strict.specs.Words.{next, choose, among}
 use Rattle.strict.specs.Inner as I
@@ -55,16 +57,16 @@ module _ (s : List ℕ) (from i : ℕ) where
       by true e p = rw (ap (λ (z : Answer Unit). length (left z)) p, length-drop i s, length-drop from s) (less-same (length s) i from (leb-true i (length s) e) h)
       by false e p = absurd (subst Held p tt)
 
-  goes : (odd : ℕ) (b : Bool) → leb from (length s) ≡ b → cond b (W.blank (drop from s)) (stuck (drop (from - (length s + 1)) s)) ≡ valued s tt i →
-      cond b (W.element odd (drop from s)) (stuck (drop (from - (length s + 1)) s)) ≡ cond b (after (behind (eqb odd 0 && eqb i from)) (choose I.kerns (W.bare (drop from s)))) (stuck (drop (from - (length s + 1)) s))
+  goes : (last b : Bool) → leb from (length s) ≡ b → cond b (W.blank (drop from s)) (stuck (drop (from - (length s + 1)) s)) ≡ valued s tt i →
+      cond b (W.element last (drop from s)) (stuck (drop (from - (length s + 1)) s)) ≡ cond b (after (behind (last && eqb i from)) (choose I.kerns (W.bare (drop from s)))) (stuck (drop (from - (length s + 1)) s))
   unfolding W.element
-  goes odd true q p = ap (λ (b : Bool). after (behind (eqb odd 0 && b)) (choose I.kerns (W.bare (drop from s)))) (stays (leb-true from (length s) q) p)
-  goes odd false q p = refl
+  goes last true q p = ap (λ (b : Bool). after (behind (last && b)) (choose I.kerns (W.bare (drop from s)))) (stays (leb-true from (length s) q) p)
+  goes last false q p = refl
 
-  pub element-is : (odd w e : ℕ) → next s W.blank from ≡ valued s tt i → next s (choose I.kerns) i ≡ valued s w e → next s (W.element odd) from ≡ next s (behind (eqb odd 0 && eqb i from) w) e
-  element-is odd w e h k = goes odd (leb from (length s)) refl h
-      ∙ chain s W.blank (λ u r. after (behind (eqb odd 0 && eqb i from)) (choose I.kerns r)) tt from i h
-      ∙ chain s (choose I.kerns) (behind (eqb odd 0 && eqb i from)) w i e k
+  pub element-is : (last : Bool) (w e : ℕ) → next s W.blank from ≡ valued s tt i → next s (choose I.kerns) i ≡ valued s w e → next s (W.element last) from ≡ next s (behind (last && eqb i from) w) e
+  element-is last w e h k = goes last (leb from (length s)) refl h
+      ∙ chain s W.blank (λ u r. after (behind (last && eqb i from)) (choose I.kerns r)) tt from i h
+      ∙ chain s (choose I.kerns) (behind (last && eqb i from)) w i e k
 
 module _ (s : List ℕ) (b : Bool) (w e : ℕ) where
   pub behind-name : w < 22 → next s (behind b w) e ≡ next s (λ r. mapped (λ (k : ℕ). W.core false w 0) (choose (bytes ">|") (W.bare r))) e
@@ -82,9 +84,15 @@ module _ (s : List ℕ) (b : Bool) (w e : ℕ) where
 
 -- ── a tile, a tensor view ──
 module _ (s : List ℕ) (e : ℕ) where
-  pub tile-is : next s W.tile e ≡ next s (λ t. after (λ (l : Laid) r. mapped (W.tiled l) (W.element (l .fell) r)) (W.shape t)) e
+  pub tile-is : (k : Bool) → (e ≤ length s → k ≡ firm (front (parts true (drop e s)))) → next s W.tile e ≡ next s (λ t. after (λ (l : Laid) r. mapped (W.tiled l) (W.element k r)) (W.shape t)) e
   unfolding W.tile
-  tile-is = refl
+  tile-is k h = by (leb e (length s)) (λ q. h (leb-true e (length s) q))
+    where
+      by : (b : Bool) → (b ≡ true → k ≡ firm (front (parts true (drop e s)))) →
+          cond b (after (λ (l : Laid) r. mapped (W.tiled l) (W.element (firm (front (parts true (drop e s)))) r)) (W.shape (drop e s))) (stuck (drop (e - (length s + 1)) s))
+          ≡ cond b (after (λ (l : Laid) r. mapped (W.tiled l) (W.element k r)) (W.shape (drop e s))) (stuck (drop (e - (length s + 1)) s))
+      by true q = ap (λ (f : Bool). after (λ (l : Laid) r. mapped (W.tiled l) (W.element f r)) (W.shape (drop e s))) (sym (q refl))
+      by false q = refl
 
   pub tensor-is : (l : Laid) (a w b k c : ℕ) → next s W.shape e ≡ valued s l a → next s (W.around I.names) a ≡ valued s w b → next s (choose I.opened) b ≡ valued s k c → next s W.tensor e ≡ next s (W.begun l w k) c
   unfolding W.tensor

@@ -86,14 +86,6 @@ laid-one (read z) k = λ i. P.single (sym k i .0) 1 (sym k i .1) 0
 laid-one (fell z) k = λ i. P.single (sym k i .0) 1 (sym k i .1) 0
 
 module _ (s : List ℕ) (from : ℕ) where
-  -- ── the tile ──
-
-  pub first-stop : {e b : ℕ} → e ≡ from + length (until stop (drop from s)) → b ≡ getD s e 0 → eqb b 120 ≡ W.by-x (drop from s)
-  first-stop p q = ap (λ (n : ℕ). eqb n 120) (q ∙ ap (λ (k : ℕ). getD s k 0) p ∙ sym (getD-drop from s (length (until stop (drop from s))) 0))
-
-  pub tiles-by : (x : Bool) → x ≡ W.by-x (drop from s) → next s W.tiles from ≡ next s (W.list (small (pos 1)) x) from
-  tiles-by x h = next-same s W.tiles (W.list (small (pos 1)) x) from (ap (λ (b : Bool). W.list (small (pos 1)) b (drop from s)) (sym h))
-
   -- ── the traversal ──
 
   abbrev travel-on : Text → Answer W.May

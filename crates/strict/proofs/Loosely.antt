@@ -16,7 +16,8 @@ use Rattle.meaning.specs.Tile.{dimension}
 use Rattle.meaning.specs.Views.{small}
 use Rattle.grammar.specs.Piece.{got}
 use Rattle.lists.specs.Laid.{Laid}
-use Rattle.lists.specs.Next.{hole, parts, Fore}
+use Rattle.lists.specs.Next.{hole, parts, Leading, Fore, Dims}
+use Rattle.lists.specs.declared.fore.Fore64.{Fore64}
 use Rattle.lists.proofs.Holes.{row, few, laid-fore, laid-all, fore-place}
 use Rattle.strict.specs.Cursor.{Told, place}
 use Rattle.strict.specs.Words.{next}
@@ -30,16 +31,20 @@ onward s from k e h = drop-drop k from s ∙ ap (λ (n : ℕ). drop n s) (sym h)
 module _ {x : Bool} {s : Text} {from : ℕ} (h : from ≤ length s) {out out′ : List ℤ} (o : out ≡ padded 8 []) {n odd start end : ℕ} {e : ℤ × ℕ} where
   pub listed : {f : Text → Entry} → Fore f x s from out out′ n odd start end e → {l : List ℤ} {v : ℤ} → l ≡ set out′ n v → v ≡ e .0 → Told s (place s from) (next s (list f x) from) (row l (n + 1) (odd + e .1)) end
   listed {f = f} g {l} q w =
-      let p = fore-place h g in let b = g .ends in
-      begin s (list f x) from h (past s from (list f x (drop from s)) (row l (n + 1) (odd + e .1)) end (p .2) (omega arith)
-      (λ i. got (sym (laid-all o g q w) i) (onward s from (length (hole x (drop from s))) end b i)))
+      let p = fore-place h (g .leading) in let b = g .ends in let y = p .2 in
+      begin s (list f x) from h (past s from (list f x (drop from s)) (row l (n + 1) (odd + e .1)) end (omega arith) (omega arith)
+      (λ i. got (sym (laid-all o (g .leading) g q w) i) (onward s from (length (hole x (drop from s))) end b i)))
 
-module _ {s : Text} {from : ℕ} (h : from ≤ length s) {out out′ : List ℤ} (o : out ≡ padded 8 []) {n odd start end : ℕ} {e : ℤ × ℕ} (g : Fore dimension true s from out out′ n odd start end e) where
+module _ {s : Text} {from : ℕ} (h : from ≤ length s) {out out′ : List ℤ} (o : out ≡ padded 8 []) {n odd start : ℕ} (g : Leading dimension true s from out out′ n odd start) where
   pub shaped : Told s (place s from) (next s shape from) (row out′ n odd) start
   shaped =
-      let p = fore-place h g in let b = g .begins in
+      let p = fore-place h g in let b = g .begins in let y = p .2 in
       begin s shape from h (past s from (shape (drop from s)) (row out′ n odd) start (omega arith) (p .1)
       (λ i. got (sym (laid-fore o g) i) (onward s from (length (hole true (drop from s)) - length (last (parts true (drop from s)))) start (p .0) i)))
+
+-- dimensions by commas
+pub by-commas : {s : Text} {from : ℕ} {l l′ : List ℤ} {r : Fore64} → Dims false s from l l′ r → Fore dimension false s from l l′ (r .len) (r .fell) (r .start) (r .end) (r .value, r .odd)
+by-commas d = record { leading = d .leading; entry = d .entry; ends = d .ends }
 
 -- ── white bytes ──
 
@@ -60,7 +65,7 @@ whites {s} {from} {r} h e =
 -- a list has no more entries than the text has bytes, and one, and no more fell back
 pub fewer : {f : Text → Entry} {x : Bool} {s : Text} {from : ℕ} {l l′ : List ℤ} {n odd start end : ℕ} {e : ℤ × ℕ} → from ≤ length s → Fore f x s from l l′ n odd start end e → (n ≤ length s) × (odd ≤ length s) × (e .1 ≤ 1)
 fewer {f} {x} {s} {from} h g =
-    let p = fore-place h g in let q = p .2 in let a = g .few in let b = g .fewer in let c = g .begins in
+    let d = g .leading in let p = fore-place h d in let q = p .2 in let a = d .few in let b = d .fewer in let c = d .begins in
     (omega arith, omega arith, few (f (last (parts x (drop from s)))) (g .entry))
 
 -- a default by its bits

@@ -2,14 +2,14 @@
 use Prim.Native.Nat.{ℕ, _+_, _-_, _≤_, _<_}
 use native.Mathlib.Nat.{add-zero}
 use native.Mathlib.Omega.{arith}
-use mathlib.Core.Bool.{Bool, true, false, cond}
+use mathlib.Core.Bool.{Bool, true, false, cond, not, _&&_}
 use mathlib.Core.List.{List, [], _∷_}
 use mathlib.Core.Path.{_≡_, refl, subst, sym, ap, _∙_}
 use borrow.Author.Tests.{le-leb, lt-leb, leb-true, ne-eqb}
-use lib.Dec.{eqb, leb}
+use lib.Dec.{T, eqb, leb, ltb}
 use lib.IntN.{ℤ, pos}
 use lib.ListN.{length, drop, getD, replicate, drop-of-length-le}
-use Rattle.lexis.specs.Text.{Text, trim}
+use Rattle.lexis.specs.Text.{Text, trim, if_then_else_}
 use Rattle.lexis.proofs.Trimming.{trim-within}
 use Rattle.scalars.specs.declared.scalar.Scalar.{Scalar}
 use Rattle.meaning.specs.declared.Kind.{Kind}
@@ -22,9 +22,11 @@ use Rattle.meaning.specs.declared.Refusal.the-variants.{Accepted, TooLong, NotS
 use Rattle.meaning.specs.Found.{Clause, filled, padded}
 use Rattle.meaning.specs.Ordinary.{refused}
 use Rattle.meaning.specs.Tile.{DYNAMIC}
+use Rattle.grammar.specs.Tests.{every}
 use Rattle.grammar.specs.Piece.{Answer, got, stuck}
 use Rattle.grammar.specs.Join.{mapped, after}
 use Rattle.lists.specs.Laid.{Laid, laid}
+use Rattle.lists.proofs.Stopping.{left}
 use Rattle.strict.specs.Words.{next, choose}
 use Rattle.strict.specs.Cursor.{Told, valued, place}
 use Rattle.strict.specs.Inner.{close}
@@ -236,24 +238,55 @@ unlisted l m x y z w b = record {
 pub few-sparse : (g : Bool) (v : ℤ) (n o : ℕ) → Light (or-filled g (single v n o 0) (filled (pos 0 ∷ []))) → g ≡ true → o ≤ 1025
 few-sparse g v n o l e = subst (λ (b : Bool). Light (or-filled b (single v n o 0) (filled (pos 0 ∷ [])))) e l .fell
 
-pub few-at : (s : Text) → length s ≤ 1024 → (f : W.Found) (d : ℕ) → loosely s ≡ valued s f d → d ≡ length s → Bounded f
-few-at s h f d q k = bounded s h f (drop d s) (q ∙ valued-past s f d (omega arith))
-
 -- ── the answer ──
 
 module _ (s : Text) (f : W.Found) (d : ℕ) where
-  pub other : (d ≡ length s → ⊥) → refused 8 NotStrict 0 ≡ W.whole (valued s f d)
-  other n = by (leb d (length s)) (leb-true d (length s))
+  -- whether the walk came to the end
+  abbrev come : Bool
+  come = leb d (length s) && W.ended (f .kind) (drop d s)
+
+  pub few-at : length s ≤ 1024 → loosely s ≡ valued s f d → come ≡ true → Bounded f
+  few-at h q k = bounded s h f (drop d s) (q ∙ valued-past s f d (leb-true d (length s) (left (leb d (length s)) (W.ended (f .kind) (drop d s)) k)))
+
+  pub other : come ≡ false → refused 8 NotStrict 0 ≡ W.whole (valued s f d)
+  other = by (leb d (length s))
     where
-      by : (k : Bool) → (k ≡ true → d ≤ length s) → refused 8 NotStrict 0 ≡ W.whole (cond k (got f (drop d s)) (stuck (drop (d - (length s + 1)) s)))
-      by true f = let h : d < length s = (let g = f refl in omega arith) in rw (view s d h)
-      by false f = refl
+      by : (k : Bool) → k && W.ended (f .kind) (drop d s) ≡ false → refused 8 NotStrict 0 ≡ W.whole (cond k (got f (drop d s)) (stuck (drop (d - (length s + 1)) s)))
+      by true e = sym (ap (λ (b : Bool). if b then W.answered f else refused 8 NotStrict 0) e)
+      by false e = refl
 
-  le-of : d ≡ length s → length s ≤ d
-  le-of k = omega arith
+  pub at-end : come ≡ true → W.answered f ≡ W.whole (valued s f d)
+  at-end = by (leb d (length s))
+    where
+      by : (k : Bool) → k && W.ended (f .kind) (drop d s) ≡ true → W.answered f ≡ W.whole (cond k (got f (drop d s)) (stuck (drop (d - (length s + 1)) s)))
+      by true e = sym (ap (λ (b : Bool). if b then W.answered f else refused 8 NotStrict 0) e)
+      by false e = absurd (subst T (sym e) tt)
 
-  pub at-end : d ≡ length s → W.answered f ≡ W.whole (valued s f d)
-  at-end k = rw (le-leb d (length s) (omega arith), drop-of-length-le s (le-of k))
+-- what may follow
+module _ (s : Text) (k : Kind) (e : ℕ) where
+  pub at-last : e ≡ length s → true ≡ leb e (length s) && W.ended k (drop e s)
+  at-last h = sym (rw (le-leb e (length s) (omega arith), drop-of-length-le s (let g : length s ≤ e = omega arith in g)))
+
+  pub stuck-there : length s < e → false ≡ leb e (length s) && W.ended k (drop e s)
+  stuck-there h = sym (rw (lt-leb e (length s) h))
+
+  pub more-there : {b : Bool} → e < length s → b ≡ W.bracketed k && every W.quiet (drop e s) → b ≡ leb e (length s) && W.ended k (drop e s)
+  more-there h q = q ∙ sym (rw (le-leb e (length s) (omega arith), view s e h))
+
+all-so : (a b c d : Bool) → a && ((b && c) && d) ≡ a && b && c && d
+all-so true true c d = refl
+all-so true false c d = refl
+all-so false b c d = refl
+
+pub quiet-more : (s : Text) (i : ℕ) (a : Bool) → i < length s → a && every W.quiet (drop i s) ≡ (a && ltb (getD s i 0) 128 && not (eqb (getD s i 0) 35)) && every W.quiet (drop (i + 1) s)
+quiet-more s i a h = ap (λ (t : Text). a && every W.quiet t) (view s i h) ∙ all-so a (ltb (getD s i 0) 128) (not (eqb (getD s i 0) 35)) (every W.quiet (drop (i + 1) s))
+
+pub quiet-end : (s : Text) (i : ℕ) (a : Bool) → length s ≤ i → a && every W.quiet (drop i s) ≡ a
+quiet-end s i a h = ap (λ (t : Text). a && every W.quiet t) (drop-of-length-le s h) ∙ by a
+  where
+    by : (a : Bool) → a && true ≡ a
+    by true = refl
+    by false = refl
 
 pub trim-short : (s : Text) → length s ≤ 1024 → {t : Text} → t ≡ trim s → length t ≤ 1024
 trim-short s h e = subst (λ (t : Text). length t ≤ 1024) (sym e) (let k = trim-within s in omega arith)

@@ -1,6 +1,7 @@
 -- A text whose clauses stand in their usual places, as the code walks it once: an entry is any bytes up to the next structural one, white
 -- bytes may stand around a name, clauses may be absent. Words are known by their numbers, lists are laid out with their counts.
 use Prim.Native.Nat.{ℕ, _-_, _+_}
+use Prim.Native.Char.{code}
 use mathlib.Core.Bool.{Bool, true, false, cond, not, _&&_}
 use mathlib.Core.List as L
 use mathlib.Core.List.{List, [], _∷_}
@@ -20,10 +21,11 @@ use Rattle.meaning.specs.Found.{Entry, Clause, stands, filled, unused}
 use Rattle.meaning.specs.Tile.{DYNAMIC, dimension}
 use Rattle.meaning.specs.Views as W
 use Rattle.meaning.specs.Views.{small}
+use Rattle.grammar.specs.Tests.{every}
 use Rattle.grammar.specs.Piece.{Answer, got, stuck}
 use Rattle.grammar.specs.Join.{mapped, after}
 use Rattle.lists.specs.Laid.{Laid, laid}
-use Rattle.lists.specs.Next.{stop, hole, parts}
+use Rattle.lists.specs.Next.{stop, hole, parts, by-x, firm}
 use Rattle.strict.specs.Words.{choose}
 use Rattle.strict.specs.Inner.{names, kerns, close, close-both, brackets, opened}
 use Rattle.strict.specs.Views.{pads, leads, mids, walk-mids, maps, sparses, travels}
@@ -70,15 +72,15 @@ core p w k = record { pointer = p; word = w; marked = eqb k 1 }
 unfoldable pub pointee : List ℕ → Text → Answer Core
 pointee table t = after (λ w r. mapped (core true w) (choose table r)) (around names t)
 
--- what stands behind the dimensions of a tile: a name with white bytes around it; or a pointer, where the dimensions are all readable and no
--- white byte stands before it
-abbrev pub element-by : ℕ → Text → ℕ → Text → Answer Core
-element-by odd t w r =
+-- what stands behind the dimensions of a tile: a name with white bytes around it; or a pointer, where the last dimension has bytes (all `x`
+-- before a pointer go) and no white byte stands before it
+abbrev pub element-by : Bool → Text → ℕ → Text → Answer Core
+element-by last t w r =
     cond (ltb w 22) (mapped (λ (k : ℕ). core false w 0) (choose (bytes ">|") (bare r)))
-    (cond (eqb odd 0 && eqb (length (bare t)) (length t)) (pointee close-both r) (stuck r))
+    (cond (last && eqb (length (bare t)) (length t)) (pointee close-both r) (stuck r))
 
-unfoldable pub element : ℕ → Text → Answer Core
-element odd t = after (element-by odd t) (choose kerns (bare t))
+unfoldable pub element : Bool → Text → Answer Core
+element last t = after (element-by last t) (choose kerns (bare t))
 
 pub record Tiled : Type 0 where
   pub shape : Laid
@@ -88,7 +90,7 @@ abbrev pub tiled : Laid → Core → Tiled
 tiled l c = record { shape = l; core = c }
 
 unfoldable pub tile : Text → Answer Tiled
-tile t = after (λ (l : Laid) r. mapped (tiled l) (element (l .fell) r)) (shape t)
+tile t = after (λ (l : Laid) r. mapped (tiled l) (element (firm (front (parts true t))) r)) (shape t)
 
 -- the strides may be absent: one DYNAMIC for each dimension then
 pub record Body : Type 0 where
@@ -112,11 +114,8 @@ tensor t = after (λ l r. after (λ w x. after (begun l w) (choose opened x)) (a
 -- ── the views ──
 
 -- parted by `x` if the first structural byte is one, else by commas
-abbrev pub by-x : Text → Bool
-by-x t = eqb (getD t (length (until stop t)) 0) 120
-
 abbrev pub tiles : Text → Answer Laid
-tiles t = list (small (pos 1)) (by-x t) t
+tiles t = list (small (pos 1)) (by-x true t) t
 
 abbrev pub smalls : Text → Answer Laid
 smalls t = list (small (pos 0)) false t
@@ -287,9 +286,26 @@ fits f = leb (f .shape .len) 8 && leb (f .strides .len) 8 && leb (f .tile .len) 
 unfoldable pub answered : Found → Reading
 answered f = if fits f then record { refusal = Accepted; place = 0; value = record-of f; note = note-of f } else refused 8 TooMany 0
 
+-- what may stand behind a bracket that closes the whole: any bytes of ASCII in which no mark begins
+abbrev pub quiet : ℕ → Bool
+quiet c = ltb c 128 && not (eqb c (code "#"))
+
+abbrev pub bracketed : Kind → Bool
+bracketed K.Scalar = false
+bracketed K.Pointer = true
+bracketed K.Tile = true
+bracketed K.TensorView = true
+bracketed K.Partition = true
+bracketed K.GatherScatter = true
+bracketed K.Strided = true
+bracketed K.Token = false
+
+abbrev pub ended : Kind → Text → Bool
+ended k [] = true
+ended k (c ∷ r) = bracketed k && every quiet (c ∷ r)
+
 abbrev pub whole : Answer Found → Reading
-whole (got f []) = answered f
-whole (got f (c ∷ r)) = refused 8 NotStrict 0
+whole (got f r) = if ended (f .kind) r then answered f else refused 8 NotStrict 0
 whole (stuck r) = refused 8 NotStrict 0
 
 unfoldable pub skimmed : Text → Reading

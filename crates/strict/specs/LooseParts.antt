@@ -4,22 +4,27 @@ use mathlib.Core.Bool.{Bool, true, false, cond}
 use mathlib.Core.List.{List, [], _∷_}
 use lib.Dec.{eqb}
 use lib.IntN.{ℤ, pos}
-use lib.ListN.{replicate}
+use lib.ListN.{length, drop, replicate}
 use Rattle.lexis.specs.Text.{Text}
 use Rattle.meaning.specs.declared.Kind.{Kind}
 use Rattle.meaning.specs.declared.Kind.the-variants as K
 use Rattle.meaning.specs.declared.Note.{Note}
 use Rattle.meaning.specs.Found.{Clause, filled, padded}
+use Rattle.meaning.specs.Parts.{front}
 use Rattle.meaning.specs.Tile.{DYNAMIC}
 use Rattle.meaning.specs.Views.{count-up}
 use Rattle.grammar.specs.Piece.{Answer}
 use Rattle.grammar.specs.Join.{mapped, after}
 use Rattle.grammar.specs.Table.{_↝_}
 use Rattle.lists.specs.Laid.{Laid, laid}
-use Rattle.strict.specs.Words.{among}
+use Rattle.lists.specs.Next.{parts, firm}
+use Rattle.strict.specs.Cursor.{Told, place}
+use Rattle.strict.specs.Words.{among, next}
 use Rattle.strict.specs.Inner.{names}
 use Rattle.strict.specs.Loose as W
 use Rattle.strict.specs.Loose.{around, core, tiled}
+use mathlib.Core.Path.{_≡_}
+use Rattle.strict.specs.declared.loose.Dims.{Dims}
 use Rattle.strict.specs.declared.inner.Core.{Core}
 use Rattle.strict.specs.declared.«loose_inner».LooseTile.{LooseTile}
 use Rattle.strict.specs.declared.«loose_inner».Body.{Body}
@@ -37,6 +42,11 @@ cored c = record { pointer = c .pointer; word = c .word; marked = c .marked }
 
 abbrev pub row : List ℤ → ℕ → ℕ → ℕ → Laid
 row l n odd f = record { values = l; len = n; fell = odd; filled = f }
+
+-- dimensions, and whether a pointer may stand behind them
+pub record Dimmed (s : Text) (from : ℕ) (l : List ℤ) (r : Dims) : Type 0 where
+  pub told : Told s (place s from) (next s W.shape from) (row l (r .len) (r .fell) 0) (r .end)
+  pub solid : from ≤ length s → r .firm ≡ firm (front (parts true (drop from s)))
 
 abbrev pub tiled-as : List ℤ → LooseTile → W.Tiled
 tiled-as l t = tiled (row l (t .rank) (t .fell) 0) (cored (t .core))

@@ -14,7 +14,9 @@ ghost use Rattle.meaning.specs.Views.{small};
 ghost use Rattle.strict.specs.Cursor.{Told, place};
 ghost use Rattle.strict.specs.Words.{next};
 ghost use Rattle.strict.specs.Inner.{names};
-ghost use Rattle.strict.specs.Loose.{list, shape, blank, around, laid-row};
+ghost use Rattle.lists.specs.Next.{by-x};
+ghost use Rattle.strict.specs.Loose.{list, blank, around, laid-row};
+ghost use Rattle.strict.specs.LooseParts.{Dimmed};
 
 // How many entries a list has and how many of them fell back, with the end.
 pub(crate) struct Row {
@@ -23,23 +25,33 @@ pub(crate) struct Row {
     pub(crate) end: usize,
 }
 
+// The same of dimensions before an element, and whether a pointer may stand behind them.
+pub(crate) struct Dims {
+    pub(crate) len: usize,
+    pub(crate) fell: usize,
+    pub(crate) firm: bool,
+    pub(crate) end: usize,
+}
+
 // Dimensions, each with its `x`; the end is where the part after the last `x` begins.
-pub(crate) fn loose_shape(s: &[u8], from: usize, out: &mut [i64]) -> Row
+pub(crate) fn loose_shape(s: &[u8], from: usize, out: &mut [i64]) -> Dims
     requires { ⌜ place (now s) from ≤ length (now s) ⌝ }
     requires { ⌜ now out ≡ padded 8 [] ⌝ }
-    ensures { λ r. ⌜ Told (now (s .entry)) (place (now (s .entry)) from) (next (now (s .entry)) shape from) (laid-row (now (out .exit)) r) (r .end) ⌝ }
+    ensures { λ r. ⌜ Dimmed (now (s .entry)) from (now (out .exit)) r ⌝ }
 {
     if s.len() < from {
-        return Row {
+        return Dims {
             len: 0,
             fell: 0,
+            firm: false,
             end: from,
         };
     }
     let f = lists::fore_dims(s, from, true, out);
-    Row {
+    Dims {
         len: f.len,
         fell: f.fell,
+        firm: f.firm,
         end: f.start,
     }
 }
@@ -67,12 +79,18 @@ pub(crate) fn loose_list64(s: &[u8], from: usize, out: &mut [i64]) -> Row
     }
 }
 
-// 32-bit entries by `x` or by commas.
-pub(crate) fn loose_list32(s: &[u8], from: usize, x: bool, default: i32, out: &mut [i32]) -> Row
+// 32-bit entries by commas; or, where they may be, by `x` if the first structural byte is one.
+pub(crate) fn loose_list32(
+    s: &[u8],
+    from: usize,
+    either: bool,
+    default: i32,
+    out: &mut [i32],
+) -> Row
     requires { ⌜ place (now s) from ≤ length (now s) ⌝ }
     requires { ⌜ now out ≡ padded 8 [] ⌝ }
     requires { ⌜ length (now s) ≤ 1024 ⌝ }
-    ensures { λ r. ⌜ Told (now (s .entry)) (place (now (s .entry)) from) (next (now (s .entry)) (list (small default) x) from) (laid-row (now (out .exit)) r) (r .end) ⌝ }
+    ensures { λ r. ⌜ Told (now (s .entry)) (place (now (s .entry)) from) (next (now (s .entry)) (λ t. list (small default) (by-x either t) t) from) (laid-row (now (out .exit)) r) (r .end) ⌝ }
 {
     if s.len() < from {
         return Row {
@@ -81,7 +99,7 @@ pub(crate) fn loose_list32(s: &[u8], from: usize, x: bool, default: i32, out: &m
             end: from,
         };
     }
-    let f = lists::fore_smalls(s, from, x, default, &mut *out);
+    let f = lists::fore_smalls(s, from, either, default, &mut *out);
     put32(out, f.len, f.value);
     Row {
         len: f.len + 1,

@@ -78,10 +78,10 @@ fn no_core(s: &[u8], at: usize) -> Core
     }
 }
 
-// A tile's element behind dimensions of which `odd` fell back, and the tile's end.
-fn loose_element(s: &[u8], from: usize, odd: usize) -> Core
+// A tile's element and the tile's end; a pointer stands behind dimensions that are `firm`.
+fn loose_element(s: &[u8], from: usize, firm: bool) -> Core
     requires { ⌜ place (now s) from ≤ length (now s) ⌝ }
-    ensures { λ r. ⌜ Told (now (s .entry)) (place (now (s .entry)) from) (next (now (s .entry)) (element odd) from) (cored r) (r .end) ⌝ }
+    ensures { λ r. ⌜ Told (now (s .entry)) (place (now (s .entry)) from) (next (now (s .entry)) (element firm) from) (cored r) (r .end) ⌝ }
 {
     let i = past_white(s, from);
     let k = read_core_name(s, i);
@@ -94,7 +94,7 @@ fn loose_element(s: &[u8], from: usize, odd: usize) -> Core
             end: m.end,
         };
     }
-    if (odd == 0) & (i == from) {
+    if firm & (i == from) {
         return loose_pointee(s, k.end, b">>", b", #cuda_tile.ptr_attr<none>>>");
     }
     no_core(s, k.end)
@@ -106,7 +106,7 @@ pub(crate) fn loose_tile(s: &[u8], from: usize, shape: &mut [i64]) -> LooseTile
     ensures { λ r. ⌜ Told (now (s .entry)) (place (now (s .entry)) from) (next (now (s .entry)) tile from) (tiled-as (now (shape .exit)) r) (r .core .end) ⌝ }
 {
     let l = loose_shape(s, from, shape);
-    let core = loose_element(s, l.end, l.fell);
+    let core = loose_element(s, l.end, l.firm);
     LooseTile {
         rank: l.len,
         fell: l.fell,

@@ -1,5 +1,4 @@
 // The parts of the three views of a loose text, from the entries of the tile to the closing `>`.
-use super::loose::Row;
 use super::loose::loose_list32;
 use super::loose_inner::Body;
 use super::loose_inner::loose_tensor;
@@ -19,7 +18,7 @@ ghost use Prim.Native.Nat.{_≤_};
 ghost use Rattle.meaning.specs.Found.{padded};
 ghost use Rattle.strict.specs.Cursor.{Told, place};
 ghost use Rattle.strict.specs.Words.{next};
-ghost use Rattle.strict.specs.Loose.{tiles, travel, sight, sparse-end, map-end, ending, view, laid-row};
+ghost use Rattle.strict.specs.Loose.{travel, sight, sparse-end, map-end, ending, view};
 ghost use Rattle.strict.specs.LooseParts.{travelled, sighted, ended, shut, whole};
 
 // The traversal, where it stands.
@@ -73,18 +72,6 @@ pub(crate) struct Whole {
     pub(crate) padded: bool,
     pub(crate) pad: usize,
     pub(crate) end: usize,
-}
-
-// The entries of the tile, by `x` if the first structural byte is one.
-fn loose_tiles(s: &[u8], from: usize, tile: &mut [i32]) -> Row
-    requires { ⌜ place (now s) from ≤ length (now s) ⌝ }
-    requires { ⌜ now tile ≡ padded 8 [] ⌝ }
-    requires { ⌜ length (now s) ≤ 1024 ⌝ }
-    ensures { λ r. ⌜ Told (now (s .entry)) (place (now (s .entry)) from) (next (now (s .entry)) tiles from) (laid-row (now (tile .exit)) r) (r .end) ⌝ }
-{
-    let first = lists::next_small(s, from, 1);
-    let x = peek(s, first.end) == 120;
-    loose_list32(s, from, x, 1, tile)
 }
 
 // In a strided view, the traversal after the tile, if it stands.
@@ -256,7 +243,7 @@ pub(crate) fn loose_view(
 {
     let strided = !(k < 34);
     let sparse = (k < 34) & !(k < 32);
-    let t = loose_tiles(s, from, tile);
+    let t = loose_list32(s, from, true, 1, tile);
     let w = loose_travel(s, t.end, strided, walk);
     let m = read_mid(s, w.end, !w.given);
     let v = loose_sight(s, m.end, m.word, shape, strides);

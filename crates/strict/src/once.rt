@@ -22,12 +22,13 @@ ghost use mathlib.Core.Path.{_≡_};
 ghost use mathlib.Core.Bool.{true, false, _&&_};
 ghost use mathlib.Core.List.{[]};
 ghost use lib.Dec.{leb};
-ghost use lib.ListN.{length};
+ghost use lib.ListN.{length, drop};
 ghost use Prim.Native.Nat.{_≤_};
 ghost use Rattle.lists.specs.Laid.{list64, list32};
 ghost use Rattle.meaning.specs.Found.{padded};
 ghost use Rattle.strict.specs.Cursor.{Told};
-ghost use Rattle.strict.specs.Loose.{loosely, record-of, answered, whole, skimmed};
+ghost use Rattle.grammar.specs.Tests.{every};
+ghost use Rattle.strict.specs.Loose.{loosely, record-of, answered, quiet, bracketed, ended, whole, skimmed};
 ghost use Rattle.strict.specs.LooseParts as P;
 
 // A type that is no view; where `given` is false, DYNAMIC stands for each stride.
@@ -306,6 +307,52 @@ fn answer(
     }
 }
 
+// Whether all bytes from `at` on are quiet. There is no early end, so that many are looked at in one step.
+fn quiet_from(s: &[u8], at: usize) -> bool
+    ensures { λ r. ⌜ r ≡ every quiet (drop at (now (s .entry))) ⌝ }
+{
+    let mut i = at;
+    let mut all = true;
+    while i < s.len() {
+        let b = s[i];
+        all = all & (b < 128) & (b != 35);
+        i += 1;
+    }
+    all
+}
+
+// Whether a type is closed by a bracket.
+fn bracketed(k: Kind) -> bool
+    ensures { λ r. ⌜ r ≡ bracketed k ⌝ }
+{
+    match k {
+        Kind::Scalar => false,
+        Kind::Pointer => true,
+        Kind::Tile => true,
+        Kind::TensorView => true,
+        Kind::Partition => true,
+        Kind::GatherScatter => true,
+        Kind::Strided => true,
+        Kind::Token => false,
+    }
+}
+
+// Whether a walk that ended at `e` is the whole text's: nothing follows, or what follows is ignored.
+fn ended(s: &[u8], e: usize, k: Kind) -> bool
+    ensures { λ r. ⌜ r ≡ leb e (length (now (s .entry))) && ended k (drop e (now (s .entry))) ⌝ }
+{
+    if e == s.len() {
+        return true;
+    }
+    if s.len() < e {
+        return false;
+    }
+    if !bracketed(k) {
+        return false;
+    }
+    quiet_from(s, e)
+}
+
 // What a trimmed text is, if it is walked to its end.
 fn walked(s: &[u8]) -> Reading
     requires { ⌜ length (now s) ≤ 1024 ⌝ }
@@ -317,7 +364,8 @@ fn walked(s: &[u8]) -> Reading
     let mut map = [0i32; CAP];
     let mut walk = [0i32; CAP];
     let w = loose_whole(s, &mut shape, &mut strides, &mut tile, &mut map, &mut walk);
-    if w.end != s.len() {
+    let kind = w.kind;
+    if !ended(s, w.end, kind) {
         return refuse(Refusal::NotStrict, 0);
     }
     let m = strides_of(w, strides);

@@ -3,6 +3,7 @@
 use Rattle.numerals.proofs.Walking as W
 use Rattle.lists.specs.Next.{stop}
 use Rattle.lists.proofs.Stopping as L
+use Rattle.lists.proofs.Holes as H
 use Rattle.lists.proofs.Entries.{known}
 use Rattle.lexis.specs.Text.{if_then_else_}
 use Rattle.lexis.proofs.Seeking.{right}
@@ -27,10 +28,9 @@ next-dim-spec =
     (λ c κs. search needs)
     (λ c κs. search needs)
     (λ c κs. search needs)
-    (λ c. let t = c .before .before in let p = t .before .before .before in let a = p .before .before .before .args in let f = sym (p .peek .ensures) ∙ t .before .before .if1 .taken in (
-      L.unknown-end (a .s .now) (a .at) (p .before .skip-white .ensures) f (t .before .skip-white2 .ensures) (ap stop (sym (t .peek2 .ensures)) ∙ sym (c .before .stop .ensures) ∙ c .if2 .taken),
-      L.unknown-told (a .s .now) (a .at) (p .before .skip-white .ensures) f (t .before .skip-white2 .ensures) (ap stop (sym (t .peek2 .ensures)) ∙ sym (c .before .stop .ensures) ∙ c .if2 .taken),
-    ))
+    (λ c. let t = c .before .before in let p = t .before .before .before in let a = p .before .before .before .args in let f = sym (p .peek .ensures) ∙ t .before .before .if1 .taken in H.told-due
+    (L.unknown-end (a .s .now) (a .at) (p .before .skip-white .ensures) f (t .before .skip-white2 .ensures) (ap stop (sym (t .peek2 .ensures)) ∙ sym (c .before .stop .ensures) ∙ c .if2 .taken))
+    (L.unknown-told (a .s .now) (a .at) (p .before .skip-white .ensures) f (t .before .skip-white2 .ensures) (ap stop (sym (t .peek2 .ensures)) ∙ sym (c .before .stop .ensures) ∙ c .if2 .taken)))
     (λ c κs. let t = c .before .before in let p = t .before .before .before in let a = p .before .before .before .args in
     L.unknown-len (a .s .now) (a .at) (p .before .skip-white .ensures) (sym (p .peek .ensures) ∙ t .before .before .if1 .taken) (t .before .skip-white2 .ensures))
     (λ c. search needs)
@@ -47,10 +47,9 @@ next-dim-spec =
     let g = L.gone (a .s .now) (a .at) (p .before .skip-white .ensures) (p .peek .ensures) k (d .digits .ensures .0) (st .before .before .skip-white3 .ensures) in
     let t = c .before .if4 .taken in
     let h = ap stop (sym (st .before .peek3 .ensures)) ∙ sym (st .stop2 .ensures) ∙ right (ltb (f .k) (d .digits .result .end)) (st .stop2 .result) t in
-    let z = ltb-true (f .k) (d .digits .result .end) (L.left (ltb (f .k) (d .digits .result .end)) (st .stop2 .result) t) in (
-      W.gone-end L.quiet g h z,
-      L.read-told (search needs ∙ c .signed64 .ensures) (known _ (W.gone-numeral L.quiet g h z 64 (omega (arith, d .digits .ensures .1)))),
-    ))
+    let z = ltb-true (f .k) (d .digits .result .end) (L.left (ltb (f .k) (d .digits .result .end)) (st .stop2 .result) t) in H.told-due
+    (W.gone-end L.quiet g h z)
+    (L.read-told (search needs ∙ c .signed64 .ensures) (known _ (W.gone-numeral L.quiet g h z 64 (omega (arith, d .digits .ensures .1))))))
     (λ c κs. let st = c .before in let d = st .before .before .before in let f = d .before .if3 in let p = d .before .before .before in let i = p .before .skip-white .result in
     let a = p .before .before .before .args in
     let k : f .k ≡ if eqb (p .peek .result) 45 then i + 1 else i =

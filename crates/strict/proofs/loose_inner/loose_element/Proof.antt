@@ -19,8 +19,8 @@ unfolding choose among
 returns c = let b = c .before .before .before .before .before in let a = b .before .before .before .args in let s = a .s .now in let i = b .before .past-white in let n = b .read-core-name in let j = c .before .before .past-white2 in let m = c .read-word in
     let w = n .result .word in let o = i .ensures .onward in let p = n .ensures .onward in let q = j .ensures .onward in let r = m .ensures .onward in
     record {
-      same = L.element-is s (a .from) (i .result) (a .odd) w (n .result .end) (i .ensures .same) (n .ensures .same)
-          ∙ L.behind-name s (eqb (a .odd) 0 && eqb (i .result) (a .from)) w (n .result .end) (search needs)
+      same = L.element-is s (a .from) (i .result) (a .firm) w (n .result .end) (i .ensures .same) (n .ensures .same)
+          ∙ L.behind-name s (a .firm && eqb (i .result) (a .from)) w (n .result .end) (search needs)
           ∙ H.chain s blank (λ u x. mapped (λ (k : ℕ). core false w 0) (choose (bytes ">|") x)) tt (n .result .end) (j .result) (j .ensures .same)
           ∙ H.last s (choose (bytes ">|")) (λ (k : ℕ). core false w 0) (m .result .word) (j .result) (m .result .end) (m .ensures .same);
       inside = m .ensures .inside;
@@ -43,8 +43,8 @@ loose-element-spec =
     (λ c. let b = c .before .before .before .before .before .before in let a = b .before .before .before .args in let s = a .s .now in let i = b .before .past-white in let n = b .read-core-name in let m = c .loose-pointee in
     let o = i .ensures .onward in let p = n .ensures .onward in let q = m .ensures .onward in let k : 22 ≤ n .result .word = search needs in
     record {
-      same = L.element-is s (a .from) (i .result) (a .odd) (n .result .word) (n .result .end) (i .ensures .same) (n .ensures .same)
-          ∙ L.behind-point s (eqb (a .odd) 0 && eqb (i .result) (a .from)) (n .result .word) (n .result .end) k (c .before .before .before .if2 .taken) ∙ m .ensures .same;
+      same = L.element-is s (a .from) (i .result) (a .firm) (n .result .word) (n .result .end) (i .ensures .same) (n .ensures .same)
+          ∙ L.behind-point s (a .firm && eqb (i .result) (a .from)) (n .result .word) (n .result .end) k (c .before .before .before .if2 .taken) ∙ m .ensures .same;
       inside = m .ensures .inside;
       onward = omega arith;
     })
@@ -52,8 +52,8 @@ loose-element-spec =
     (λ c. let b = c .before .before .before .before in let a = b .before .before .before .args in let s = a .s .now in let i = b .before .past-white in let n = b .read-core-name in let m = c .no-core in
     let o = i .ensures .onward in let p = n .ensures .onward in let q = m .ensures .onward in let k : 22 ≤ n .result .word = search needs in
     record {
-      same = L.element-is s (a .from) (i .result) (a .odd) (n .result .word) (n .result .end) (i .ensures .same) (n .ensures .same)
-          ∙ L.behind-none s (eqb (a .odd) 0 && eqb (i .result) (a .from)) (n .result .word) (n .result .end) k (c .before .if2 .left) ∙ m .ensures .same;
+      same = L.element-is s (a .from) (i .result) (a .firm) (n .result .word) (n .result .end) (i .ensures .same) (n .ensures .same)
+          ∙ L.behind-none s (a .firm && eqb (i .result) (a .from)) (n .result .word) (n .result .end) k (c .before .if2 .left) ∙ m .ensures .same;
       inside = m .ensures .inside;
       onward = omega arith;
     }))

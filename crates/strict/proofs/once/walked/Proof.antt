@@ -1,8 +1,9 @@
--- `walked` meets its contract: the type is the whole text.
+-- `walked` meets its contract: the walk came to the text's end, or what follows is ignored.
 use Rattle.strict.proofs.Skimming as L
 use Rattle.strict.specs.LooseParts as P
 use Rattle.strict.specs.Loose as W
 use mathlib.Core.Path.{refl, sym, ap, subst, _∙_}
+use borrow.Author.Tests.{not-true, not-false}
 use borrow.Author.Needs.{needs}
 use Rattle.strict.proofs.once.walked.Statement.{statement}
 use Rattle.strict.proofs.once.walked.Tie as tie
@@ -18,14 +19,15 @@ walked-spec =
     (λ c. search needs)
     (λ c κs. (refl, (refl, (refl, (refl, (refl, c .before .before .before .before .before .before .pre))))))
     (λ c κs. search needs)
+    (λ c κs. search needs)
     (λ c. let s = c .before .before .before .before .before .before .before .before .before .before .before .before .before .before .before .args .s .now in let m = c .before .before .before .before .before .before .before .before .loose-whole in let w = m .result in
-    c .refuse .ensures ∙ L.other s (P.whole (m .last .1 .0) (m .last .1 .1 .0) (m .last .1 .1 .1 .0) (m .last .1 .1 .1 .1 .0) (m .last .1 .1 .1 .1 .1 .0) w) (w .end) (c .before .if1 .taken) ∙ sym (ap W.whole (m .ensures .same)))
+    c .refuse .ensures ∙ L.other s (P.whole (m .last .1 .0) (m .last .1 .1 .0) (m .last .1 .1 .1 .0) (m .last .1 .1 .1 .1 .0) (m .last .1 .1 .1 .1 .1 .0) w) (w .end) (sym (c .before .before .ended .ensures) ∙ not-true _ (c .before .if1 .taken)) ∙ sym (ap W.whole (m .ensures .same)))
     (λ c κs. search needs)
     (λ c κs. search needs)
     (λ c κs. search needs)
     (λ c κs. let o = c .before .before .before .before .before .before .before .before .before .before .before .before .before .before .before .before .before in let m = c .before .before .before .before .before .before .before .before .before .before .loose-whole in let w = m .result in
     subst P.Bounded (λ i. P.with-lists (m .last .1 .0) (sym (c .before .before .strides-of .ensures) i) (m .last .1 .1 .1 .0) (sym (c .before .map-of .ensures) i) (sym (c .walk-of .ensures) i) w)
-    (L.few-at (o .args .s .now) (o .pre) (P.whole (m .last .1 .0) (m .last .1 .1 .0) (m .last .1 .1 .1 .0) (m .last .1 .1 .1 .1 .0) (m .last .1 .1 .1 .1 .1 .0) w) (w .end) (m .ensures .same) (c .before .before .before .if1 .left)))
+    (L.few-at (o .args .s .now) (P.whole (m .last .1 .0) (m .last .1 .1 .0) (m .last .1 .1 .1 .0) (m .last .1 .1 .1 .1 .0) (m .last .1 .1 .1 .1 .1 .0) w) (w .end) (o .pre) (m .ensures .same) (sym (c .before .before .before .before .ended .ensures) ∙ not-false _ (c .before .before .before .if1 .left))))
     (λ c. let s = c .before .before .before .before .before .before .before .before .before .before .before .before .before .before .before .before .before .before .args .s .now in let m = c .before .before .before .before .before .before .before .before .before .before .before .loose-whole in let w = m .result in
     c .answer .ensures ∙ (λ i. W.answered (P.with-lists (m .last .1 .0) (c .before .before .before .strides-of .ensures i) (m .last .1 .1 .1 .0) (c .before .before .map-of .ensures i) (c .before .walk-of .ensures i) w))
-    ∙ L.at-end s (P.whole (m .last .1 .0) (m .last .1 .1 .0) (m .last .1 .1 .1 .0) (m .last .1 .1 .1 .1 .0) (m .last .1 .1 .1 .1 .1 .0) w) (w .end) (c .before .before .before .before .if1 .left) ∙ sym (ap W.whole (m .ensures .same))))
+    ∙ L.at-end s (P.whole (m .last .1 .0) (m .last .1 .1 .0) (m .last .1 .1 .1 .0) (m .last .1 .1 .1 .1 .0) (m .last .1 .1 .1 .1 .1 .0) w) (w .end) (sym (c .before .before .before .before .before .ended .ensures) ∙ not-false _ (c .before .before .before .before .if1 .left)) ∙ sym (ap W.whole (m .ensures .same))))

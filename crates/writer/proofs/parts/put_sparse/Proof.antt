@@ -19,18 +19,18 @@ put-sparse-spec =
     (λ c κs. omega (arith, simp length-append at (c .before .before .before .pre)))
     (λ c κs.
     let s = c .before .before .before .before .before .before .before .before in
-    let q = c .struct-told .given .1 .1 .1 .1 .1 .1 .1 .1 .1 .1 .1 .1 .1 .1 in
+    let q = c .struct-told .given .1 .1 .1 .1 .1 .1 .1 .1 .1 .1 in
     let e : toZ w32 (ofZ w32 (s .args .r .sparse)) ≡ s .args .r .sparse = search (needs, q) in
     rw e (omega (arith, simp length-append at (s .pre))))
     (λ c κs.
     let s = c .before .before .before .before .before .before .before .before .before .before .before .before in
-    let q = c .before .before .before .before .struct-told .given .1 .1 .1 .1 .1 .1 .1 .1 .1 .1 .1 .1 .1 .1 in
+    let q = c .before .before .before .before .struct-told .given .1 .1 .1 .1 .1 .1 .1 .1 .1 .1 in
     let e : toZ w32 (ofZ w32 (s .args .r .sparse)) ≡ s .args .r .sparse = search (needs, q) in
     omega (arith, simp length-append at (s .pre), (rw e at (c .before .before .before .put-small .ensures)) .place))
     (λ c. search needs)
     (λ c.
     let c₁ = c .before .before .before .before .before .before in
     let s = c .before .before .before .before .before .before .before .before .before .before .before .before .before .before .before in
-    let q = c .before .before .before .before .before .before .before .struct-told .given .1 .1 .1 .1 .1 .1 .1 .1 .1 .1 .1 .1 .1 .1 in
+    let q = c .before .before .before .before .before .before .before .struct-told .given .1 .1 .1 .1 .1 .1 .1 .1 .1 .1 in
     let e : toZ w32 (ofZ w32 (s .args .r .sparse)) ≡ s .args .r .sparse = search (needs, q) in
     c₁ .before .before .before .before .before .put-bytes .ensures then (rw e at (c₁ .put-small .ensures)) then c .before .before .put-byte .ensures))
