@@ -2,15 +2,14 @@
 use Prim.Native.Nat.{ℕ, zero, suc, _+_, _/_, _%_, _<_}
 use native.Mathlib.Nat.{mod-lt, zero-lt-suc}
 use native.Mathlib.Omega.{arith}
-use mathlib.Core.Bool.{Bool, true, false, _&&_, _||_}
+use mathlib.Core.Bool.{Bool, true, false, _&&_}
 use mathlib.Core.List.{List, [], _∷_, _++_}
-use mathlib.Core.Option.{none, some}
+use mathlib.Core.Option.{none}
 use mathlib.Core.Path.{_≡_, refl, sym, subst}
-use borrow.Author.Tests.{lt-leb, le-ltb, ltb-true}
-use lib.Dec.{T, ltb, leb, lt→ltb, ltb→lt, le→leb, leb→le}
+use borrow.Author.Tests.{lt-leb, ltb-true}
+use lib.Dec.{T, ltb, leb, lt→ltb, ltb→lt, le→leb}
 use lib.IntN.{ℤ, pos, negsuc}
-use lib.ListN.{length}
-use Rattle.lexis.specs.Text.{Text, bytes, if_then_else_, until, outside}
+use Rattle.lexis.specs.Text.{Text, bytes}
 use Rattle.meaning.specs.Decimal.{digits, decimal, Dim, dynamic, known, dim}
 use Rattle.meaning.specs.Ordinary.{high-from}
 use Rattle.meaning.specs.Strict as S
@@ -55,25 +54,6 @@ none-high k [] h = refl
 none-high k (b ∷ t) h =
     let e = lt-leb 128 b (ltb→lt b 128 (and-right (leb 32 b) (ltb b 128) (and-left (printed b) (plain t) h))) in
     rw e (none-high (suc k) t (and-right (printed b) (plain t) h))
-
-none-outside : (t : Text) → T (plain t) → length (until (outside 32 127) t) ≡ length t
-none-outside [] h = refl
-none-outside (b ∷ t) h =
-    let p = and-left (printed b) (plain t) h in
-    let l = le-ltb b 32 (leb→le 32 b (and-left (leb 32 b) (ltb b 128) p)) in
-    let u = le-ltb 127 b (let k = ltb→lt b 128 (and-right (leb 32 b) (ltb b 128) p) in omega arith) in
-    rw (l, u, none-outside t (and-right (printed b) (plain t) h))
-
--- where no byte stands outside, none is high
-pub inside-low : (k : ℕ) (t : Text) → length (until (outside 32 127) t) ≡ length t → high-from k t ≡ none
-inside-low k [] h = refl
-inside-low k (b ∷ t) h = by (ltb b 32) (leb 128 b) h (inside-low (suc k) t)
-  where
-    by : (c d : Bool) → length (if c || d then [] else b ∷ until (outside 32 127) t) ≡ suc (length t) → (length (until (outside 32 127) t) ≡ length t → high-from (suc k) t ≡ none)
-        → (if d then some k else high-from (suc k) t) ≡ none
-    by true d e r = let f : ⊥ = omega arith in absurd f
-    by false true e r = let f : ⊥ = omega arith in absurd f
-    by false false e r = r (omega arith)
 
 -- ── numbers ──
 
@@ -192,9 +172,6 @@ spell-plain (S.strided v c s d) =
 plainly : (t : Text) (a : Any) → Strict t a → T (plain t)
 plainly t a h = subst (λ (u : Text). T (plain u)) (sym (h .text)) (spell-plain (h .form) .within)
 
--- A STRICT TEXT IS ASCII, AND A TEXT WITH A BYTE OUTSIDE IS NOT STRICT
+-- A STRICT TEXT IS ASCII
 pub strict-low : (t : Text) (a : Any) → Strict t a → high-from 0 t ≡ none
 strict-low t a h = none-high 0 t (plainly t a h)
-
-pub outside-loose : (t : Text) → (length (until (outside 32 127) t) ≡ length t → ⊥) → (a : Any) → Strict t a → ⊥
-outside-loose t o a h = o (none-outside t (plainly t a h))

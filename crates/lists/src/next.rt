@@ -6,6 +6,7 @@ use super::entry::parse_dim;
 use super::entry::parse_small;
 use lexis::skip_white;
 ghost use mathlib.Core.Path.{_≡_};
+ghost use mathlib.Core.Bool.{true, false};
 ghost use Prim.Native.Nat.{_+_, _<_, _^_};
 ghost use lib.IntN.{pos};
 ghost use lib.ListN.{drop, getD, length};
@@ -137,10 +138,9 @@ fn any_dim(s: &[u8], at: usize, from: usize, x: bool) -> Next64
     }
 }
 
-// The dimension that stands from `at` on before the next structural byte, and the place of that byte. Where it should end at an `x` and
-// doesn't, it may be left unread.
-pub(crate) fn next_dim(s: &[u8], at: usize, x: bool) -> Next64
-    ensures { λ r. ⌜ Due x (now (s .entry)) at r ⌝ }
+// A dimension of a list by commas. The same walk stands twice: where each has its own, a processor guesses better where numerals end.
+fn dim_of_list(s: &[u8], at: usize) -> Next64
+    ensures { λ r. ⌜ Due false (now (s .entry)) at r ⌝ }
 {
     let i = skip_white(s, at);
     let b = peek(s, i);
@@ -153,7 +153,7 @@ pub(crate) fn next_dim(s: &[u8], at: usize, x: bool) -> Next64
                 end: e,
             };
         }
-        return any_dim(s, at, e, x);
+        return any_dim(s, at, e, false);
     }
     let neg = b == 45;
     let k = if neg { i + 1 } else { i };
@@ -168,7 +168,51 @@ pub(crate) fn next_dim(s: &[u8], at: usize, x: bool) -> Next64
             end: e,
         };
     }
-    any_dim(s, at, e, x)
+    any_dim(s, at, e, false)
+}
+
+// A dimension that should end at an `x`.
+fn dim_of_shape(s: &[u8], at: usize) -> Next64
+    ensures { λ r. ⌜ Due true (now (s .entry)) at r ⌝ }
+{
+    let i = skip_white(s, at);
+    let b = peek(s, i);
+    if b == 63 {
+        let e = skip_white(s, i + 1);
+        if stop(peek(s, e)) {
+            return Next64 {
+                value: DYNAMIC,
+                fell: 0,
+                end: e,
+            };
+        }
+        return any_dim(s, at, e, true);
+    }
+    let neg = b == 45;
+    let k = if neg { i + 1 } else { i };
+    let r = digits(s, k);
+    let n = r.value;
+    let j = r.end;
+    let e = skip_white(s, j);
+    if (k < j) & stop(peek(s, e)) {
+        return Next64 {
+            value: signed64(n, neg),
+            fell: 0,
+            end: e,
+        };
+    }
+    any_dim(s, at, e, true)
+}
+
+// The dimension that stands from `at` on before the next structural byte, and the place of that byte. Where it should end at an `x` and
+// doesn't, it may be left unread.
+pub(crate) fn next_dim(s: &[u8], at: usize, x: bool) -> Next64
+    ensures { λ r. ⌜ Due x (now (s .entry)) at r ⌝ }
+{
+    if x {
+        return dim_of_shape(s, at);
+    }
+    dim_of_list(s, at)
 }
 
 fn signed32(n: u64, neg: bool) -> i32

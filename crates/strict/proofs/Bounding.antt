@@ -1,6 +1,6 @@
 -- In a text of at most 1,024 bytes few entries of a list fall back, so the note's sums don't overflow: by what each part of the walk
 -- answers and leaves.
-use Prim.Native.Nat.{ℕ, _+_, _-_, _≤_}
+use Prim.Native.Nat.{ℕ, _-_, _≤_}
 use native.Mathlib.Omega.{arith}
 use mathlib.Core.Bool.{Bool, true, false, cond, not, _&&_}
 use mathlib.Core.List as L

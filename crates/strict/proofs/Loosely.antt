@@ -21,7 +21,7 @@ use Rattle.lists.specs.declared.fore.Fore64.{Fore64}
 use Rattle.lists.proofs.Holes.{row, few, laid-fore, laid-all, fore-place}
 use Rattle.strict.specs.Cursor.{Told, place}
 use Rattle.strict.specs.Words.{next}
-use Rattle.strict.specs.Loose.{list, shape, bare, blank}
+use Rattle.strict.specs.Loose.{list, shape, blank}
 use Rattle.strict.proofs.Cursors.{past, begin}
 
 -- k bytes on

@@ -23,7 +23,7 @@ use Rattle.meaning.specs.Found.{Clause, filled, padded}
 use Rattle.meaning.specs.Ordinary.{refused}
 use Rattle.meaning.specs.Tile.{DYNAMIC}
 use Rattle.grammar.specs.Tests.{every}
-use Rattle.grammar.specs.Piece.{Answer, got, stuck}
+use Rattle.grammar.specs.Piece.{got, stuck}
 use Rattle.grammar.specs.Join.{mapped, after}
 use Rattle.lists.specs.Laid.{Laid, laid}
 use Rattle.lists.proofs.Stopping.{left}

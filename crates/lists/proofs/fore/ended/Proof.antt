@@ -1,6 +1,5 @@
 -- `ended` meets its contract: by its flag; a number by its bits.
 use Rattle.lists.specs.Push.{ended}
-use Rattle.lists.specs.declared.fore.Fore64.{Fore64}
 use mir.Syntax.{w64}
 use mir.Val.{toZ, ofZ}
 use mathlib.Core.Bool.{Bool}

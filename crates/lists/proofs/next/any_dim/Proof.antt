@@ -1,11 +1,10 @@
 -- `any_dim` meets its contract: the part up to the end is what `parse_dim` reads, unless no `x` follows where one should.
-use Rattle.meaning.specs.Found.{Entry}
 use Rattle.meaning.specs.Tile.{dimension}
 use Rattle.lists.specs.Laid.{said64}
 use Rattle.lists.specs.Next.{told}
 use Rattle.lists.proofs.Holes as H
 use lib.IntN.{ℤ}
-use mathlib.Core.Path.{_≡_, refl, sym, ap, _∙_}
+use mathlib.Core.Path.{refl, sym, ap, _∙_}
 use borrow.Author.Needs.{needs}
 use Rattle.lists.proofs.next.any_dim.Statement.{statement}
 use Rattle.lists.proofs.next.any_dim.Tie as tie

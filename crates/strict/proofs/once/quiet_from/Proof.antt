@@ -3,10 +3,9 @@ use Rattle.strict.proofs.Skimming as L
 use Rattle.strict.specs.Loose.{quiet}
 use Rattle.grammar.specs.Tests.{every}
 use mathlib.Core.Bool.{_&&_}
-use mathlib.Core.Path.{_≡_, refl, sym, _∙_}
+use mathlib.Core.Path.{_≡_, sym, _∙_}
 use Prim.Native.Nat.{_-_}
 use lib.ListN.{length, drop}
-use native.Mathlib.Omega.{arith}
 use borrow.Author.Needs.{needs}
 use Rattle.strict.proofs.once.quiet_from.Statement.{statement}
 use Rattle.strict.proofs.once.quiet_from.Tie as tie
