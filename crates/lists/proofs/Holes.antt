@@ -152,6 +152,10 @@ module _ {f : Text → Entry} {x : Bool} {s : Text} {from : ℕ} {l out : List �
   behind : drop (suc (length (until stop (drop i s)))) (drop i s) ≡ drop (e + 1) s
   behind = drop-drop (suc (length (until stop (drop i s)))) i s ∙ ap (λ (k : ℕ). drop k s) {x = i + suc (length (until stop (drop i s)))} {y = e + 1} (omega arith)
 
+  -- where one more is laid, the text goes on
+  pub onward : getD s e 0 ≡ sep x → {d : ℕ} → d ≤ 1 → (e < length s) × (i ≤ e) × (n ≤ i) × (odd ≤ n) × (d ≤ 1)
+  onward h k = (within x s e h, let q = p in omega arith, g .fewest, g .fewer, k)
+
   pub more : getD s e 0 ≡ sep x → {out′ : List ℤ} {u : ℤ} {v : ℤ} {d : ℕ} → out′ ≡ set out n u → u ≡ v → (v, d) ≡ told (f (until stop (drop i s))) → Passing f x s from l out′ (n + 1) (odd + d) (e + 1)
   more h {u = u} {v = v} {d = d} q w k =
       let t = until stop (drop i s) in
@@ -234,9 +238,8 @@ module _ {x : Bool} {s : Text} {from : ℕ} {l out : List ℤ} {n odd i : ℕ} {
   told-by : getD s (m .end) 0 ≡ sep x → (m .value, m .fell) ≡ told (dimension (until stop (drop i s)))
   told-by h = d .says (λ e. h ∙ ap sep e)
 
-  -- where one more is laid, the text goes on
   pub room : getD s (m .end) 0 ≡ sep x → (m .end < length s) × (i ≤ m .end) × (n ≤ i) × (odd ≤ n) × (m .fell ≤ 1)
-  room h = (within x s (m .end) h, let e = d .ends in omega arith, g .passing .fewest, g .passing .fewer, d .few)
+  room h = onward (g .passing) (d .ends) h (d .few)
 
   pub firm-on : getD s (m .end) 0 ≡ sep x → {out′ : List ℤ} {u : ℤ} {b : Bool} → out′ ≡ set out n u → u ≡ m .value → b ≡ eqb n 0 || ltb i (m .end) → Firmly x s from l out′ (n + 1) (odd + m .fell) b (m .end + 1)
   unfolding more
@@ -284,7 +287,7 @@ held f either s from l {m} {b} {c} p q e = record {
 
 module _ {f : Text → Entry} {either : Bool} {s : Text} {from : ℕ} {l out : List ℤ} {c n odd i : ℕ} {m : Next32} (g : Held f either s from l out c n odd i m) where
   pub held-room : getD s (m .end) 0 ≡ c → (m .end < length s) × (i ≤ m .end) × (n ≤ i) × (odd ≤ n) × (m .fell ≤ 1)
-  held-room h = (within (by-x either (drop from s)) s (m .end) (h ∙ g .parted), let e = g .ends in omega arith, g .passing .fewest, g .passing .fewer, few (f (until stop (drop i s))) (g .says))
+  held-room h = onward (g .passing) (g .ends) (h ∙ g .parted) (few (f (until stop (drop i s))) (g .says))
 
   pub held-on : getD s (m .end) 0 ≡ c → {out′ : List ℤ} {u : ℤ} {m′ : Next32} → out′ ≡ set out n u → u ≡ m .value →
       (m′ .end ≡ m .end + 1 + length (until stop (drop (m .end + 1) s))) × ((m′ .value, m′ .fell) ≡ told (f (until stop (drop (m .end + 1) s)))) → Held f either s from l out′ c (n + 1) (odd + m .fell) (m .end + 1) m′

@@ -1,5 +1,6 @@
 -- A text whose clauses stand in their usual places, as the code walks it once: an entry is any bytes up to the next structural one, white
--- bytes may stand around a name, clauses may be absent. Words are known by their numbers, lists are laid out with their counts.
+-- bytes may stand around a name, clauses may be absent, and something may follow the closing bracket. Words are known by their numbers, lists
+-- are laid out with their counts. No part of document 01: the crate `skim` shows what it is worth.
 use Prim.Native.Nat.{ℕ, _-_, _+_}
 use Prim.Native.Char.{code}
 use mathlib.Core.Bool.{Bool, true, false, cond, not, _&&_}
@@ -72,15 +73,15 @@ core p w k = record { pointer = p; word = w; marked = eqb k 1 }
 unfoldable pub pointee : List ℕ → Text → Answer Core
 pointee table t = after (λ w r. mapped (core true w) (choose table r)) (around names t)
 
--- what stands behind the dimensions of a tile: a name with white bytes around it; or a pointer, where the last dimension has bytes (all `x`
--- before a pointer go) and no white byte stands before it
+-- what stands behind the dimensions of a tile: a name with white bytes around it; or a pointer, where the dimensions are firm (all `x` before a
+-- pointer go, so that an empty last one would be lost) and no white byte stands before it
 abbrev pub element-by : Bool → Text → ℕ → Text → Answer Core
-element-by last t w r =
+element-by ok t w r =
     cond (ltb w 22) (mapped (λ (k : ℕ). core false w 0) (choose (bytes ">|") (bare r)))
-    (cond (last && eqb (length (bare t)) (length t)) (pointee close-both r) (stuck r))
+    (cond (ok && eqb (length (bare t)) (length t)) (pointee close-both r) (stuck r))
 
 unfoldable pub element : Bool → Text → Answer Core
-element last t = after (element-by last t) (choose kerns (bare t))
+element ok t = after (element-by ok t) (choose kerns (bare t))
 
 pub record Tiled : Type 0 where
   pub shape : Laid
@@ -286,7 +287,7 @@ fits f = leb (f .shape .len) 8 && leb (f .strides .len) 8 && leb (f .tile .len) 
 unfoldable pub answered : Found → Reading
 answered f = if fits f then record { refusal = Accepted; place = 0; value = record-of f; note = note-of f } else refused 8 TooMany 0
 
--- what may stand behind a bracket that closes the whole: any bytes of ASCII in which no mark begins
+-- what may stand behind the bracket that closes the whole, and is ignored: any bytes of ASCII but `#`, without which no mark begins
 abbrev pub quiet : ℕ → Bool
 quiet c = ltb c 128 && not (eqb c (code "#"))
 
