@@ -1,13 +1,11 @@
 -- Each public function's contract leaves one answer: two answers that meet the generated reading of it, for the same arguments, are the same.
 -- What is said of an entry or of a list tells it whole; a place in a text is told by what stands there and that it is inside.
-use mathlib.Core.Path.{_≡_, refl, sym, ap, _∙_}
-use Prim.Native.Nat.{ℕ, _+_, _-_}
+use mathlib.Core.Path.{_≡_, sym, ap, _∙_}
+use Prim.Native.Nat.{ℕ, _-_}
 use native.Mathlib.Omega.{arith}
-use lib.IntN.{ℤ}
 use lib.ListN.{length, length-drop}
 use Rattle.lexis.specs.Text.{Text}
-use denote.Ref.{now}
-use Rattle.lexis.proofs.Unique.{One, Left}
+use Rattle.lexis.proofs.Unique.{One}
 use Rattle.lists.specs.Laid.{Laid, said64, said32, list64, list32, Fronted}
 use Rattle.lists.specs.declared.entry.Entry64.{Entry64}
 use Rattle.lists.specs.declared.entry.Entry64.the-variants as E64
@@ -16,11 +14,8 @@ use Rattle.lists.specs.declared.entry.Entry32.the-variants as E32
 use Rattle.lists.specs.declared.list.List64.{List64}
 use Rattle.lists.specs.declared.list.List32.{List32}
 use Rattle.lists.specs.declared.list.Front.{Front}
-use Rattle.lists.specs.declared.next.Next32.{Next32}
 use Rattle.lists.proofs.entry.parse_dim.Reads as parse-dim
 use Rattle.lists.proofs.entry.parse_small.Reads as parse-small
-use Rattle.lists.proofs.fore.fore_dims.Reads as fore-dims
-use Rattle.lists.proofs.fore.fore_smalls.Reads as fore-smalls
 use Rattle.lists.proofs.fill.none64.Reads as none64
 use Rattle.lists.proofs.fill.none32.Reads as none32
 use Rattle.lists.proofs.fill.dynamic.Reads as dynamic
@@ -31,7 +26,6 @@ use Rattle.lists.proofs.list.parse_dims.Reads as parse-dims
 use Rattle.lists.proofs.list.parse_front.Reads as parse-front
 use Rattle.lists.proofs.list.parse_smalls.Reads as parse-smalls
 use Rattle.lists.proofs.list.parse_one.Reads as parse-one
-use Rattle.lists.proofs.next.next_small.Reads as next-small
 
 -- ── entries ──
 
@@ -99,40 +93,3 @@ fronted-one w s {x} {y} p q =
 
 pub parse-front-one : One parse-front.Post
 parse-front-one κs a x y s t p q = fronted-one 8 _ p q
-
--- ── an entry with its end ──
-
-next32-one : {x y : Next32} → x .end ≡ y .end → _≡_ {A = ℤ × ℕ} (x .value, x .fell) (y .value, y .fell) → x ≡ y
-next32-one e p = λ i. record { value = p i .0; fell = p i .1; end = e i }
-
-pub next-small-one : One next-small.Post
-next-small-one κs a x y s t p q = next32-one (p .0 ∙ sym (q .0)) (p .1 ∙ sym (q .1))
-
--- ── entries between separators: the answer, and the lent array at exit ──
-
-same-start : (m n e d k : ℕ) → m + k ≡ e → n + k ≡ d → e ≡ d → m ≡ n
-same-start m n e d k p q r = omega arith
-
-pub fore-dims-one : One fore-dims.Post
-fore-dims-one κs a x y s t p q =
-    let e = p .ends ∙ sym (q .ends) in let b = same-start (x .start) (y .start) _ _ _ (p .leading .begins) (q .leading .begins) refl in let v = p .entry ∙ sym (q .entry) in
-    λ i. record {
-      len = (p .leading .count ∙ sym (q .leading .count)) i;
-      fell = (p .leading .odd ∙ sym (q .leading .odd)) i;
-      firm = (p .solid ∙ sym (q .solid)) i;
-      start = b i;
-      value = v i .0;
-      odd = v i .1;
-      end = e i;
-    }
-
-pub fore-dims-left : Left (λ κs s. now (s .1 .1 .1 .0)) fore-dims.Post
-fore-dims-left κs a x y s t p q = p .leading .values ∙ sym (q .leading .values)
-
-pub fore-smalls-one : One fore-smalls.Post
-fore-smalls-one κs a x y s t p q =
-    let e = p .ends ∙ sym (q .ends) in let b = same-start (x .start) (y .start) _ _ _ (p .leading .begins) (q .leading .begins) refl in let v = p .entry ∙ sym (q .entry) in
-    λ i. record { len = (p .leading .count ∙ sym (q .leading .count)) i; fell = (p .leading .odd ∙ sym (q .leading .odd)) i; start = b i; value = v i .0; odd = v i .1; end = e i }
-
-pub fore-smalls-left : Left (λ κs s. now (s .1 .1 .1 .1 .0)) fore-smalls.Post
-fore-smalls-left κs a x y s t p q = p .leading .values ∙ sym (q .leading .values)

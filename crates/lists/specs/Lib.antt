@@ -1,4 +1,3 @@
 -- What the list readers' contracts say.
 pub mod Laid
-pub mod Next
 pub mod Push

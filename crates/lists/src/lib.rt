@@ -1,10 +1,9 @@
 // Entries and lists of a type, read into arrays: the first entries up to the capacity, their true number, how many fell back.
 mod entry;
 mod fill;
-mod fore;
 mod list;
-mod next;
 
+pub use entry::DYNAMIC;
 pub use entry::Entry32;
 pub use entry::Entry64;
 pub use entry::parse_dim;
@@ -15,10 +14,6 @@ pub use fill::none32;
 pub use fill::none64;
 pub use fill::ones;
 pub use fill::zero;
-pub use fore::Fore32;
-pub use fore::Fore64;
-pub use fore::fore_dims;
-pub use fore::fore_smalls;
 pub use list::Front;
 pub use list::List32;
 pub use list::List64;
@@ -26,5 +21,3 @@ pub use list::parse_dims;
 pub use list::parse_front;
 pub use list::parse_one;
 pub use list::parse_smalls;
-pub use next::Next32;
-pub use next::next_small;

@@ -15,8 +15,8 @@ use Rattle.meaning.specs.Parts.{last, front}
 use Rattle.meaning.specs.Tile.{dimension}
 use Rattle.grammar.specs.Tests.{every, and-left, and-right, and-in}
 use Rattle.lists.specs.Laid.{Laid, laid}
-use Rattle.lists.specs.Next.{stop, hole, other}
-use Rattle.lists.specs.Next as N
+use Rattle.walk.specs.Next.{stop, hole, other}
+use Rattle.walk.specs.Next as N
 use Rattle.accord.proofs.Num.{every-mono, every-++}
 use Rattle.accord.proofs.Forms.{Of, over, sans, with-x}
 use Rattle.accord.proofs.Shape.{run}

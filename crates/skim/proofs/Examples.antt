@@ -9,7 +9,7 @@ use Rattle.meaning.specs.declared.Refusal.the-variants.{Accepted, NotStrict, To
 use Rattle.meaning.specs.Ordinary.{refused}
 use Rattle.meaning.specs.Tile.{dimension, DYNAMIC}
 use Rattle.meaning.specs.Views.{small}
-use Rattle.lists.specs.Next.{stop}
+use Rattle.walk.specs.Next.{stop}
 use Rattle.strict.specs.Words.{choose}
 use Rattle.strict.specs.Loose as W
 use Rattle.strict.specs.Loose.{skimmed}

@@ -12,7 +12,7 @@ use Rattle.lexis.proofs.Seeking.{until-take}
 use Rattle.meaning.specs.Found.{Entry, stands}
 use Rattle.grammar.specs.Tests.{every, and-right, and-in}
 use Rattle.lists.specs.Laid.{Laid, laid}
-use Rattle.lists.specs.Next.{stop, sep, other, hole}
+use Rattle.walk.specs.Next.{stop, sep, other, hole}
 use Rattle.accord.proofs.Num.{every-mono, every-++, or-cases, non}
 use Rattle.accord.proofs.Forms.{sans-all, loose, with-x, with-comma, with-both}
 use Rattle.strict.specs.Loose.{list}

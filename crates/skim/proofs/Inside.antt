@@ -20,8 +20,8 @@ use Rattle.grammar.specs.Piece.{got, stuck}
 use Rattle.grammar.specs.Join.{mapped, after}
 use Rattle.grammar.specs.Whole.{glue-more}
 use Rattle.lists.specs.Laid.{Laid, laid}
-use Rattle.lists.specs.Next.{parts, firm}
 use Rattle.lists.proofs.Bounds.{dims-len}
+use Rattle.walk.specs.Next.{parts, firm}
 use Rattle.accord.proofs.Num.{every-mono, every-++}
 use Rattle.accord.proofs.Names.{word-class, spaced-name}
 use Rattle.accord.proofs.Forms.{Of, over, spaced, named, sans-all}

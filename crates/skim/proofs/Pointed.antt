@@ -7,7 +7,7 @@ use mathlib.Core.List.{List, [], _∷_, _++_, append-assoc}
 use mathlib.Core.Path.{_≡_, refl, sym, ap, _∙_}
 use lib.Dec.{T, leb, leb→le}
 use lib.ListN.{length}
-use Rattle.lists.specs.Next.{stop, firm}
+use Rattle.walk.specs.Next.{stop, firm}
 use Rattle.lexis.specs.Text.{Text, bytes, same, white, less-leading, less-trailing, if_then_else_}
 use Rattle.numerals.specs.Numeral.{numeral}
 use Rattle.meaning.specs.Found.{Entry, read}

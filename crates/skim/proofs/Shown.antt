@@ -17,7 +17,7 @@ use Rattle.meaning.specs.Tile.{dimensions, before-pointer, tile-of, tensor-foun
 use Rattle.grammar.specs.Tests.{every, and-left, and-right}
 use Rattle.grammar.specs.Whole.{glue-more}
 use Rattle.lists.specs.Laid.{laid}
-use Rattle.lists.specs.Next.{firm}
+use Rattle.walk.specs.Next.{firm}
 use Rattle.accord.proofs.Num.{every-mono}
 use Rattle.accord.proofs.Shape.{run}
 use Rattle.accord.proofs.Forms.{Of, over, markless, sans-all}

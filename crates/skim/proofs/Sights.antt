@@ -19,7 +19,7 @@ use Rattle.grammar.specs.Piece.{Answer, got, stuck}
 use Rattle.grammar.specs.Join.{mapped, after}
 use Rattle.grammar.specs.Whole.{glue-more}
 use Rattle.lists.specs.Laid.{Laid, laid}
-use Rattle.lists.specs.Next.{stop, sep, other, hole, by-x}
+use Rattle.walk.specs.Next.{stop, sep, other, hole, by-x}
 use Rattle.accord.proofs.Num.{every-mono}
 use Rattle.accord.proofs.Shape.{run, all}
 use Rattle.accord.proofs.Forms.{Of, over, loose, with-comma, with-both, list-shape, Travel, travel, Ending, ending}

@@ -23,8 +23,8 @@ use Rattle.grammar.specs.Join.{mapped, after}
 use Rattle.grammar.specs.Table as Table
 use Rattle.grammar.specs.Table.{advance, done, settle, pick}
 use Rattle.lists.specs.Laid.{Laid, laid}
-use Rattle.lists.specs.Next.{stop, hole, parts, sep, other, by-x, firm}
 use Rattle.lists.proofs.Bounds.{fell-within, filled-within, split-length, front-length}
+use Rattle.walk.specs.Next.{stop, hole, parts, sep, other, by-x, firm}
 use Rattle.strict.specs.Words.{choose, entries}
 use Rattle.strict.specs.Inner.{names, kerns, close, close-both, brackets, opened}
 use Rattle.strict.specs.Views.{pads, leads, mids, walk-mids, maps, sparses, travels}

@@ -14,7 +14,7 @@ use Rattle.grammar.specs.Piece.{Answer, got, stuck, left}
 use Rattle.grammar.specs.Join.{mapped, after}
 use Rattle.meaning.specs.Parts.{front}
 use Rattle.lists.specs.Laid.{Laid, laid}
-use Rattle.lists.specs.Next.{parts, firm}
+use Rattle.walk.specs.Next.{parts, firm}
 use Rattle.strict.specs.Cursor.{Told, valued, place, stuck-at}
 use Rattle.strict.specs.Words.{next, choose, among}
 use Rattle.strict.specs.Inner as I

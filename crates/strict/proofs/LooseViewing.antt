@@ -16,7 +16,7 @@ use Rattle.meaning.specs.declared.Kind.{Kind}
 use Rattle.meaning.specs.Found.{Entry, read, fell, stands, filled, padded}
 use Rattle.meaning.specs.Views.{small, count-up}
 use Rattle.lists.specs.Laid.{Laid, laid}
-use Rattle.lists.specs.Next.{stop, told}
+use Rattle.walk.specs.Next.{stop, told}
 use Rattle.grammar.specs.Piece.{Answer, got, stuck}
 use Rattle.grammar.specs.Join.{mapped, after}
 use Rattle.strict.specs.Cursor.{Told, valued, place}

@@ -16,9 +16,9 @@ use Rattle.meaning.specs.Tile.{dimension}
 use Rattle.meaning.specs.Views.{small}
 use Rattle.grammar.specs.Piece.{got}
 use Rattle.lists.specs.Laid.{Laid}
-use Rattle.lists.specs.Next.{hole, parts, Leading, Fore, Dims}
-use Rattle.lists.specs.declared.fore.Fore64.{Fore64}
-use Rattle.lists.proofs.Holes.{row, few, laid-fore, laid-all, fore-place}
+use Rattle.walk.specs.Next.{hole, parts, Leading, Fore, Dims}
+use Rattle.walk.specs.declared.fore.Fore64.{Fore64}
+use Rattle.walk.proofs.Holes.{row, few, laid-fore, laid-all, fore-place}
 use Rattle.strict.specs.Cursor.{Told, place}
 use Rattle.strict.specs.Words.{next}
 use Rattle.strict.specs.Loose.{list, shape, blank}

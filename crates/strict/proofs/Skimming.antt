@@ -26,7 +26,7 @@ use Rattle.grammar.specs.Tests.{every}
 use Rattle.grammar.specs.Piece.{got, stuck}
 use Rattle.grammar.specs.Join.{mapped, after}
 use Rattle.lists.specs.Laid.{Laid, laid}
-use Rattle.lists.proofs.Stopping.{left}
+use Rattle.walk.proofs.Stopping.{left}
 use Rattle.strict.specs.Words.{next, choose}
 use Rattle.strict.specs.Cursor.{Told, valued, place}
 use Rattle.strict.specs.Inner.{close}

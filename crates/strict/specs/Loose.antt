@@ -26,7 +26,7 @@ use Rattle.grammar.specs.Tests.{every}
 use Rattle.grammar.specs.Piece.{Answer, got, stuck}
 use Rattle.grammar.specs.Join.{mapped, after}
 use Rattle.lists.specs.Laid.{Laid, laid}
-use Rattle.lists.specs.Next.{stop, hole, parts, by-x, firm}
+use Rattle.walk.specs.Next.{stop, hole, parts, by-x, firm}
 use Rattle.strict.specs.Words.{choose}
 use Rattle.strict.specs.Inner.{names, kerns, close, close-both, brackets, opened}
 use Rattle.strict.specs.Views.{pads, leads, mids, walk-mids, maps, sparses, travels}

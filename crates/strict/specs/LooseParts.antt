@@ -17,7 +17,7 @@ use Rattle.grammar.specs.Piece.{Answer}
 use Rattle.grammar.specs.Join.{mapped, after}
 use Rattle.grammar.specs.Table.{_↝_}
 use Rattle.lists.specs.Laid.{Laid, laid}
-use Rattle.lists.specs.Next.{parts, firm}
+use Rattle.walk.specs.Next.{parts, firm}
 use Rattle.strict.specs.Cursor.{Told, place}
 use Rattle.strict.specs.Words.{among, next}
 use Rattle.strict.specs.Inner.{names}

@@ -14,7 +14,7 @@ ghost use Rattle.meaning.specs.Views.{small};
 ghost use Rattle.strict.specs.Cursor.{Told, place};
 ghost use Rattle.strict.specs.Words.{next};
 ghost use Rattle.strict.specs.Inner.{names};
-ghost use Rattle.lists.specs.Next.{by-x};
+ghost use Rattle.walk.specs.Next.{by-x};
 ghost use Rattle.strict.specs.Loose.{list, blank, around, laid-row};
 ghost use Rattle.strict.specs.LooseParts.{Dimmed};
 
@@ -47,7 +47,7 @@ pub(crate) fn loose_shape(s: &[u8], from: usize, out: &mut [i64]) -> Dims
             end: from,
         };
     }
-    let f = lists::fore_dims(s, from, true, out);
+    let f = walk::fore_dims(s, from, true, out);
     Dims {
         len: f.len,
         fell: f.fell,
@@ -70,7 +70,7 @@ pub(crate) fn loose_list64(s: &[u8], from: usize, out: &mut [i64]) -> Row
             end: from,
         };
     }
-    let f = lists::fore_dims(s, from, false, &mut *out);
+    let f = walk::fore_dims(s, from, false, &mut *out);
     put64(out, f.len, f.value);
     Row {
         len: f.len + 1,
@@ -99,7 +99,7 @@ pub(crate) fn loose_list32(
             end: from,
         };
     }
-    let f = lists::fore_smalls(s, from, either, default, &mut *out);
+    let f = walk::fore_smalls(s, from, either, default, &mut *out);
     put32(out, f.len, f.value);
     Row {
         len: f.len + 1,

@@ -148,7 +148,7 @@ fn loose_sparse(s: &[u8], from: usize) -> End
             end: k.end,
         };
     }
-    let n = lists::next_small(s, k.end, 0);
+    let n = walk::next_small(s, k.end, 0);
     let m = read_word(s, n.end, b">");
     End {
         given: true,

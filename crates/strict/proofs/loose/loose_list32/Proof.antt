@@ -2,8 +2,8 @@
 use Rattle.strict.proofs.Loosely as L
 use Rattle.strict.proofs.Cursors as H
 use Rattle.strict.specs.Loose.{list}
-use Rattle.lists.specs.Next.{by-x}
-use Rattle.lists.proofs.Holes.{row}
+use Rattle.walk.specs.Next.{by-x}
+use Rattle.walk.proofs.Holes.{row}
 use Rattle.meaning.specs.Views.{small}
 use mir.Syntax.{w32}
 use mir.Val.{toZ, ofZ}

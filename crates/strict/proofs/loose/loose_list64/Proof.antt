@@ -2,7 +2,7 @@
 use Rattle.strict.proofs.Loosely as L
 use Rattle.strict.proofs.Cursors as H
 use Rattle.strict.specs.Loose.{list}
-use Rattle.lists.proofs.Holes.{row}
+use Rattle.walk.proofs.Holes.{row}
 use Rattle.meaning.specs.Tile.{dimension}
 use mathlib.Core.Bool.{false}
 use mir.Syntax.{w64}

@@ -2,7 +2,7 @@
 use Rattle.strict.proofs.Loosely as L
 use Rattle.strict.proofs.Cursors as H
 use Rattle.strict.specs.Loose.{shape}
-use Rattle.lists.proofs.Holes.{row}
+use Rattle.walk.proofs.Holes.{row}
 use native.Mathlib.Omega.{arith}
 use borrow.Author.Needs.{needs}
 use Rattle.strict.proofs.loose.loose_shape.Statement.{statement}

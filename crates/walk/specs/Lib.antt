@@ -1,0 +1,3 @@
+-- What the contracts of the entries read in a walk say.
+pub mod Next
+pub mod Due
