@@ -212,13 +212,14 @@ fn judge(p: Parsed) -> Reading
 pub fn parse(text: &[u8]) -> Reading
     ensures { λ r. ⌜ r ≡ ordinary 8 1024 (now (text .entry)) ⌝ }
 {
-    let r = strict::skim(text);
+    let t = &text[..];
+    let r = strict::skim(t);
     let refusal = r.refusal;
     if refusal.number() != 5 {
         return r;
     }
-    match first_high(text) {
+    match first_high(t) {
         Found::At(place) => refuse(Refusal::HighByte, place),
-        Found::Nowhere => judge(parse_marked(text)),
+        Found::Nowhere => judge(parse_marked(t)),
     }
 }

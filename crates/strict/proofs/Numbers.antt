@@ -56,6 +56,13 @@ module _ (most n b : ℕ) where
   past k h t = let p = ltb→lt (n * 10 + (b - 48)) (most + 1) (and-right (digit b) (ltb (n * 10 + (b - 48)) (most + 1)) t) in
       let e = div-add-mod most 10 in let m = mod-lt most (zero-lt-suc 9) in omega arith
 
+  -- one digit more stays within the limit: any of them, or this one
+  pub any-fits : n < most / 10 → b ≤ 57 → n * 10 + (b - 48) ≤ most
+  any-fits k h = let e = div-add-mod most 10 in let m = mod-lt most (zero-lt-suc 9) in omega arith
+
+  pub last-fits : n ≤ most / 10 → b - 48 ≤ most - n * 10 → n * 10 + (b - 48) ≤ most
+  last-fits k h = let e = div-add-mod most 10 in let m = mod-lt most (zero-lt-suc 9) in omega arith
+
 module _ (most n : ℕ) (s : List ℕ) (i : ℕ) (h : i < length s) where
   pub grow-low : getD s i 0 < 48 → N.grow (most + 1) n (drop i s) ≡ got n (drop i s)
   grow-low k = grow-off (most + 1) n s i h (low most n (getD s i 0) k)

@@ -20,11 +20,12 @@ fn kind_t(s: &[u8], at: usize, k: usize) -> Picked
     requires { ⌜ k ≤ 23 ⌝ }
     ensures { λ r. ⌜ Told (now (s .entry)) at (among (advance 116 (kinds k)) (drop at (now (s .entry)))) (r .word) (r .end) ⌝ }
 {
-    match peek(s, at) {
-        101 => fit(s, at + 1, b"nsor_view<", k + 6),
-        105 => fit(s, at + 1, b"le<", k + 4),
-        111 => fit(s, at + 1, b"ken", k),
-        _ => none(s, at),
+    let t = &s[..];
+    match peek(t, at) {
+        101 => fit(t, at + 1, b"nsor_view<", k + 6),
+        105 => fit(t, at + 1, b"le<", k + 4),
+        111 => fit(t, at + 1, b"ken", k),
+        _ => none(t, at),
     }
 }
 
@@ -34,12 +35,13 @@ fn kind(s: &[u8], at: usize, k: usize) -> Picked
     requires { ⌜ k ≤ 23 ⌝ }
     ensures { λ r. ⌜ Told (now (s .entry)) at (among (kinds k) (drop at (now (s .entry)))) (r .word) (r .end) ⌝ }
 {
-    match peek(s, at) {
-        103 => fit(s, at + 1, b"ather_scatter_view<tile=(", k + 10),
-        112 => fork(s, at + 1, b"tr<", k + 2, b"artition_view<tile=(", k + 8),
-        115 => fit(s, at + 1, b"trided_view<tile=(", k + 12),
-        116 => kind_t(s, at + 1, k),
-        _ => none(s, at),
+    let t = &s[..];
+    match peek(t, at) {
+        103 => fit(t, at + 1, b"ather_scatter_view<tile=(", k + 10),
+        112 => fork(t, at + 1, b"tr<", k + 2, b"artition_view<tile=(", k + 8),
+        115 => fit(t, at + 1, b"trided_view<tile=(", k + 12),
+        116 => kind_t(t, at + 1, k),
+        _ => none(t, at),
     }
 }
 
@@ -69,12 +71,13 @@ fn head_t(s: &[u8], at: usize) -> Picked
 pub(crate) fn read_head(s: &[u8]) -> Picked
     ensures { λ r. ⌜ Told (now (s .entry)) 0 (choose heads (now (s .entry))) (r .word) (r .end) ⌝ }
 {
-    match peek(s, 0) {
-        33 => kind_full(s, 1),
-        98 => fork(s, 1, b"f16", 7, b"ool", 21),
-        102 => name_f(s, 1),
-        105 => name_i(s, 1),
-        116 => head_t(s, 1),
-        _ => kind(s, 0, 22),
+    let t = &s[..];
+    match peek(t, 0) {
+        33 => kind_full(t, 1),
+        98 => fork(t, 1, b"f16", 7, b"ool", 21),
+        102 => name_f(t, 1),
+        105 => name_i(t, 1),
+        116 => head_t(t, 1),
+        _ => kind(t, 0, 22),
     }
 }

@@ -47,8 +47,9 @@ pub(crate) fn loose_pointee(s: &[u8], from: usize, bare: &[u8], marked: &[u8]) -
     requires { ⌜ T (differ (now bare) (now marked)) ⌝ }
     ensures { λ r. ⌜ Told (now (s .entry)) (place (now (s .entry)) from) (next (now (s .entry)) (pointed (now (bare .entry)) (now (marked .entry))) from) (cored r) (r .end) ⌝ }
 {
-    let n = loose_name(s, from);
-    let m = fork(s, n.end, bare, 0, marked, 1);
+    let t = &s[..];
+    let n = loose_name(t, from);
+    let m = fork(t, n.end, bare, 0, marked, 1);
     Core {
         pointer: true,
         word: n.word,
@@ -122,9 +123,10 @@ pub(crate) fn loose_tensor(s: &[u8], from: usize, shape: &mut [i64], strides: &m
     requires { ⌜ length (now s) ≤ 1024 ⌝ }
     ensures { λ r. ⌜ Told (now (s .entry)) (place (now (s .entry)) from) (next (now (s .entry)) tensor from) (bodied (now (shape .exit)) (now (strides .exit)) r) (r .end) ⌝ }
 {
-    let l = loose_shape(s, from, shape);
-    let n = loose_name(s, l.end);
-    let k = read_open(s, n.end);
+    let t = &s[..];
+    let l = loose_shape(t, from, shape);
+    let n = loose_name(t, l.end);
+    let k = read_open(t, n.end);
     if k.word < 2 {
         return Body {
             rank: l.len,
@@ -137,8 +139,8 @@ pub(crate) fn loose_tensor(s: &[u8], from: usize, shape: &mut [i64], strides: &m
             end: k.end,
         };
     }
-    let m = loose_list64(s, k.end, strides);
-    let e = read_two(s, m.end, b"]", b">", b", #cuda_tile.ptr_attr<none>>");
+    let m = loose_list64(t, k.end, strides);
+    let e = read_two(t, m.end, b"]", b">", b", #cuda_tile.ptr_attr<none>>");
     Body {
         rank: l.len,
         odd: l.fell,

@@ -99,10 +99,11 @@ fn open_view(s: &[u8], at: usize, k: usize) -> Picked
     requires { ⌜ k ≤ 1 ⌝ }
     ensures { λ r. ⌜ Told (now (s .entry)) at (among ((bytes "padding_value=" ↝ k) ∷ tensors (k + 2)) (drop at (now (s .entry)))) (r .word) (r .end) ⌝ }
 {
-    if peek(s, at) == 112 {
-        return fit(s, at + 1, b"adding_value=", k);
+    let t = &s[..];
+    if peek(t, at) == 112 {
+        return fit(t, at + 1, b"adding_value=", k);
     }
-    open_tensor(s, at, k + 2)
+    open_tensor(t, at, k + 2)
 }
 
 // After a padding: a comma, and a tensor view's beginning.

@@ -46,14 +46,15 @@ fn name_f8_by(s: &[u8], at: usize, w: &[u8], m: &[u8], v: &[u8], x: &[u8], k: us
     requires { ⌜ k ≤ 1 ⌝ }
     ensures { λ r. ⌜ Told (now (s .entry)) at (among (eights (now (w .entry)) (now (m .entry)) (now (v .entry)) (now (x .entry)) k) (drop at (now (s .entry)))) (r .word) (r .end) ⌝ }
 {
-    match peek(s, at) {
-        52 => fit(s, at + 1, w, 11 + k),
+    let t = &s[..];
+    match peek(t, at) {
+        52 => fit(t, at + 1, w, 11 + k),
         53 => {
-            let p = fit(s, at + 1, m, 0);
-            fork(s, p.end, b"2", 13 + k, v, 19 + k)
+            let p = fit(t, at + 1, m, 0);
+            fork(t, p.end, b"2", 13 + k, v, 19 + k)
         }
-        56 => fit(s, at + 1, x, 15 + k),
-        _ => none(s, at),
+        56 => fit(t, at + 1, x, 15 + k),
+        _ => none(t, at),
     }
 }
 
@@ -74,13 +75,14 @@ pub(crate) fn name_f(s: &[u8], at: usize) -> Picked
     requires { ⌜ at ≤ length (now s) ⌝ }
     ensures { λ r. ⌜ Told (now (s .entry)) at (among (named (bytes "f")) (drop at (now (s .entry)))) (r .word) (r .end) ⌝ }
 {
-    match peek(s, at) {
-        49 => fit(s, at + 1, b"6", 6),
-        51 => fit(s, at + 1, b"2", 8),
-        52 => fork(s, at + 1, b"E2M1FN", 17, b"e2m1fn", 18),
-        54 => fit(s, at + 1, b"4", 10),
-        56 => name_f8(s, at + 1),
-        _ => none(s, at),
+    let t = &s[..];
+    match peek(t, at) {
+        49 => fit(t, at + 1, b"6", 6),
+        51 => fit(t, at + 1, b"2", 8),
+        52 => fork(t, at + 1, b"E2M1FN", 17, b"e2m1fn", 18),
+        54 => fit(t, at + 1, b"4", 10),
+        56 => name_f8(t, at + 1),
+        _ => none(t, at),
     }
 }
 
@@ -89,15 +91,16 @@ pub(crate) fn read_name(s: &[u8], from: usize) -> Picked
     requires { ⌜ place (now s) from ≤ length (now s) ⌝ }
     ensures { λ r. ⌜ Told (now (s .entry)) (place (now (s .entry)) from) (next (now (s .entry)) (choose names) from) (r .word) (r .end) ⌝ }
 {
+    let t = &s[..];
     if s.len() < from {
         return found(0, from);
     }
-    match peek(s, from) {
-        98 => fork(s, from + 1, b"f16", 7, b"ool", 21),
-        102 => name_f(s, from + 1),
-        105 => name_i(s, from + 1),
-        116 => fit(s, from + 1, b"f32", 9),
-        _ => none(s, from),
+    match peek(t, from) {
+        98 => fork(t, from + 1, b"f16", 7, b"ool", 21),
+        102 => name_f(t, from + 1),
+        105 => name_i(t, from + 1),
+        116 => fit(t, from + 1, b"f32", 9),
+        _ => none(t, from),
     }
 }
 
@@ -106,12 +109,13 @@ pub(crate) fn read_core_name(s: &[u8], from: usize) -> Picked
     requires { ⌜ place (now s) from ≤ length (now s) ⌝ }
     ensures { λ r. ⌜ Told (now (s .entry)) (place (now (s .entry)) from) (next (now (s .entry)) (choose kerns) from) (r .word) (r .end) ⌝ }
 {
+    let t = &s[..];
     if s.len() < from {
         return found(0, from);
     }
-    match peek(s, from) {
-        33 => fit(s, from + 1, b"cuda_tile.ptr<", 23),
-        112 => fit(s, from + 1, b"tr<", 22),
-        _ => read_name(s, from),
+    match peek(t, from) {
+        33 => fit(t, from + 1, b"cuda_tile.ptr<", 23),
+        112 => fit(t, from + 1, b"tr<", 22),
+        _ => read_name(t, from),
     }
 }

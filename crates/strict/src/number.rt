@@ -55,14 +55,15 @@ fn grow(s: &[u8], at: usize, v: u64, most: u64) -> Grown
             return Grown { value: n, at: i };
         }
         let d = (b - 48) as u64;
-        if most / 10 < n {
-            return Grown { value: n, at: i };
+        if most / 10 <= n {
+            if most / 10 < n {
+                return Grown { value: n, at: i };
+            }
+            if most - n * 10 < d {
+                return Grown { value: n, at: i };
+            }
         }
-        let m = n * 10;
-        if most - m < d {
-            return Grown { value: n, at: i };
-        }
-        n = m + d;
+        n = n * 10 + d;
         i += 1;
     }
     Grown { value: n, at: i }

@@ -3,10 +3,10 @@ use mathlib.Core.Path.{_≡_, refl, sym, ap, subst, _∙_}
 use mathlib.Core.Bool.{Bool, true, false, _&&_, _||_, not}
 use mathlib.Core.List.{List, [], _∷_}
 use mathlib.Core.Logic.{inl, inr}
-use Prim.Native.Nat.{ℕ, zero, suc, _+_, _-_, _^_, _≤_, _<_}
+use Prim.Native.Nat.{ℕ, zero, suc, _+_, _-_, _/_, _%_, _^_, _≤_, _<_}
 use native.Mathlib.Omega.{arith}
 use borrow.Author.Tests.{eqb-true, eqb-false}
-use lib.Dec.{T, eqb}
+use lib.Dec.{eqb, ltb}
 use lib.IntN.{ℤ, pos, negsuc, negℤ, _-ℤ_, +ℤ-idl}
 use lib.ListN.{length, take, drop, getD, length-drop, drop-of-length-le}
 use mir.Syntax.{Width}
@@ -25,92 +25,53 @@ use Rattle.walk.specs.Next.{stop, told}
 
 -- ── structural bytes: by a test of each in a range ──
 
-abbrev is : Bool → Bool → Bool
-is true c = c
-is false c = not c
+abbrev same : Bool → Bool → Bool
+same true c = c
+same false c = not c
 
--- the n bytes from k on are keys, or as d tells
-abbrev settled : Bool → List ℕ → ℕ → ℕ → Bool
-settled d ks k zero = true
-settled d ks k (suc n) = (hasKey ks k || is d (stop k)) && settled d ks (suc k) n
+-- which of the n bytes from k on are structural is as f tells
+abbrev settled : (ℕ → Bool) → ℕ → ℕ → Bool
+settled f k zero = true
+settled f k (suc n) = same (f k) (stop k) && settled f (suc k) n
 
 pub left : (x y : Bool) → x && y ≡ true → x ≡ true
 left true y e = refl
 left false y e = e
 
-ranged : (d : Bool) (ks : List ℕ) (k n : ℕ) → settled d ks k n ≡ true → (b : ℕ) → k ≤ b → b < k + n → (OneOf ks b → ⊥) → stop b ≡ d
-ranged d ks k zero e b l u o = let f : ⊥ = omega arith in absurd f
-ranged d ks k (suc n) e b l u o =
-    by (eqb b k) (eqb-true b k) (λ f. let g = eqb-false b k f in ranged d ks (suc k) n (right first (settled d ks (suc k) n) e) b (omega arith) (omega arith) o)
+ranged : (f : ℕ → Bool) (k n : ℕ) → settled f k n ≡ true → (b : ℕ) → k ≤ b → b < k + n → f b ≡ stop b
+ranged f k zero e b l u = let z : ⊥ = omega arith in absurd z
+ranged f k (suc n) e b l u =
+    by (eqb b k) (eqb-true b k) (λ h. let g = eqb-false b k h in ranged f (suc k) n (right (same (f k) (stop k)) (settled f (suc k) n) e) b (omega arith) (omega arith))
   where
-    first : Bool
-    first = hasKey ks k || is d (stop k)
+    alike : (d c : Bool) → same d c ≡ true → d ≡ c
+    alike true c e = sym e
+    alike false true e = e
+    alike false false e = refl
 
-    told-is : (d c : Bool) → is d c ≡ true → c ≡ d
-    told-is true c e = e
-    told-is false true e = sym e
-    told-is false false e = refl
+    by : (c : Bool) → (c ≡ true → b ≡ k) → (c ≡ false → f b ≡ stop b) → f b ≡ stop b
+    by true h g = ap f (h refl) ∙ alike (f k) (stop k) (left (same (f k) (stop k)) (settled f (suc k) n) e) ∙ ap stop (sym (h refl))
+    by false h g = g refl
 
-    unkeyed : (c : Bool) → (c ≡ true → OneOf ks k) → (OneOf ks k → ⊥) → c || is d (stop k) ≡ true → stop k ≡ d
-    unkeyed true f m e = absurd (m (f refl))
-    unkeyed false f m e = told-is d (stop k) e
+-- a byte's bit in a set; from 128 on all are in
+abbrev pub bit : ℕ → ℕ → Bool
+bit set b = ltb 127 b || eqb ((set / (2 ^ (b % 64))) % 2) 1
 
-    by : (c : Bool) → (c ≡ true → b ≡ k) → (c ≡ false → stop b ≡ d) → stop b ≡ d
-    by true f g =
-        ap stop (f refl)
-        ∙ unkeyed (hasKey ks k) (λ h. hit ks k (subst T (sym h) tt)) (λ h. o (subst (OneOf ks) (sym (f refl)) h)) (left first (settled d ks (suc k) n) e)
-    by false f g = g refl
-
--- the keys of the code's match
-abbrev pub keys : List ℕ
-keys = 33 ∷ 35 ∷ 44 ∷ 91 ∷ 93 ∷ 110 ∷ 120 ∷ 122 ∷ []
-
-module _ (b : ℕ) where
-  pub low : b < 40 → (OneOf keys b → ⊥) → stop b ≡ false
-  unfolding stop
-  low u o = ranged false keys 0 40 refl b (omega arith) u o
-
-  pub round : 40 ≤ b → b < 42 → stop b ≡ true
-  unfolding stop
-  round l u = ranged true [] 40 2 refl b l u (λ o. o)
-
-  pub middle : 42 ≤ b → b < 60 → (OneOf keys b → ⊥) → stop b ≡ false
-  unfolding stop
-  middle l u o = ranged false keys 42 18 refl b l u o
-
-  pub angled : 60 ≤ b → b < 63 → stop b ≡ true
-  unfolding stop
-  angled l u = ranged true [] 60 3 refl b l u (λ o. o)
-
-  pub high : 63 ≤ b → b < 128 → (OneOf keys b → ⊥) → stop b ≡ false
-  unfolding stop
-  high l u o = ranged false keys 63 65 refl b l u o
-
-  pub wide : 128 ≤ b → b < 256 → stop b ≡ true
-  unfolding stop
-  wide l u = ranged true [] 128 128 refl b l u (λ o. o)
-
-abbrev all-stop : List ℕ → Bool
-all-stop [] = true
-all-stop (k ∷ ks) = stop k && all-stop ks
-
-one-of : (ks : List ℕ) → all-stop ks ≡ true → (b : ℕ) → OneOf ks b → stop b ≡ true
-one-of [] e b o = absurd o
-one-of (k ∷ []) e b o = ap stop o ∙ left (stop k) true e
-one-of (k ∷ j ∷ ks) e b (inl o) = ap stop o ∙ left (stop k) (all-stop (j ∷ ks)) e
-one-of (k ∷ j ∷ ks) e b (inr o) = one-of (j ∷ ks) (right (stop k) (all-stop (j ∷ ks)) e) b o
-
-pub met : (b : ℕ) → OneOf keys b → stop b ≡ true
+-- the code's two sets
+pub low : (b : ℕ) → b < 64 → bit 8070471465918529536 b ≡ stop b
 unfolding stop
-met = one-of keys refl
+low b u = ranged (bit 8070471465918529536) 0 64 refl b (omega arith) u
+
+pub high : (b : ℕ) → 64 ≤ b → b < 256 → bit 360358339604905984 b ≡ stop b
+unfolding stop
+high b l u = ranged (bit 360358339604905984) 64 192 refl b l u
 
 -- no byte of a plain entry is structural
 pub quiet : Quiet stop
 unfolding stop
 quiet =
     record {
-      on-white = λ b e. let h = white-low b e in ranged false [] 0 33 refl b (omega arith) (omega arith) (λ o. o);
-      on-digit = λ b l u. ranged false [] 48 10 refl b l (omega arith) (λ o. o);
+      on-white = λ b e. let h = white-low b e in sym (ranged (λ _. false) 0 33 refl b (omega arith) (omega arith));
+      on-digit = λ b l u. sym (ranged (λ _. false) 48 10 refl b l (omega arith));
       on-minus = refl;
     }
 

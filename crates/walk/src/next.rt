@@ -37,14 +37,16 @@ struct Run {
     end: usize,
 }
 
-// Whether no entry goes past the byte.
+// The structural bytes, a bit for each: those below 64, and those from 64 on.
+const LOW: u64 = 1 << 33 | 1 << 35 | 1 << 40 | 1 << 41 | 1 << 44 | 1 << 60 | 1 << 61 | 1 << 62;
+const HIGH: u64 = 1 << 27 | 1 << 29 | 1 << 46 | 1 << 56 | 1 << 58;
+
+// Whether no entry goes past the byte. It is looked up and not matched: a processor can't guess which byte comes.
 fn stop(b: u8) -> bool
     ensures { λ r. ⌜ r ≡ stop b ⌝ }
 {
-    match b {
-        120 | 44 | 40 | 41 | 91 | 93 | 60 | 62 | 35 | 61 | 33 | 110 | 122 | 128..=255 => true,
-        _ => false,
-    }
+    let set = if b < 64 { LOW } else { HIGH };
+    (127 < b) | ((set >> (b % 64)) % 2 == 1)
 }
 
 // The byte at a place; 0 past the end.

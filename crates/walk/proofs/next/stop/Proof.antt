@@ -1,6 +1,8 @@
--- `stop` meets its contract: the match tests some bytes one by one, and the rest by ranges.
+-- `stop` meets its contract: in each of the two sets every byte is tested.
 use Rattle.walk.proofs.Stopping as L
-use mathlib.Core.Path.{sym}
+use mathlib.Core.Path.{ap, _∙_}
+use mathlib.Core.Logic.{inl, inr}
+use Prim.Native.Nat.{ℕ}
 use borrow.Author.Needs.{needs}
 use Rattle.walk.proofs.next.stop.Statement.{statement}
 use Rattle.walk.proofs.next.stop.Tie as tie
@@ -9,10 +11,10 @@ pub stop-spec : {M : Type 1} → statement M
 stop-spec =
     tie.close
     (tie.spec
-    (λ c. let m = c .before in sym (L.low (m .before .args .b) (search needs) (m .match .rest .1)))
-    (λ c. let m = c .before .before .before in sym (L.middle (m .before .args .b) (search needs) (search needs) (m .match .rest .1)))
-    (λ c. let m = c .before .before .before .before .before in sym (L.high (m .before .args .b) (search needs) (search needs) (m .match .rest .1)))
-    (λ c. sym (L.met (c .before .args .b) (c .match .keys1)))
-    (λ c. sym (L.round (c .before .before .before .args .b) (search needs) (search needs)))
-    (λ c. sym (L.angled (c .before .before .before .before .before .args .b) (search needs) (search needs)))
-    (λ c. sym (L.wide (c .before .before .before .before .before .before .args .b) (search needs) (search needs))))
+    (λ c. search needs)
+    (λ c. search needs)
+    (λ c. let b = c .before .before .args .b in
+    elim (c .before .if1 .came) [
+      inl h ↦ ap (λ (z : ℕ). L.bit z b) (h .1) ∙ L.low b (h .0 .taken)
+    | inr h ↦ ap (λ (z : ℕ). L.bit z b) (h .1) ∙ L.high b (h .0 .left) (search needs)
+    ]))
