@@ -37,11 +37,12 @@ struct Run {
     end: usize,
 }
 
-// The structural bytes, a bit for each: those below 64, and those from 64 on.
+// The structural bytes below 128, a bit for each: ! # ( ) , < = >
 const LOW: u64 = 1 << 33 | 1 << 35 | 1 << 40 | 1 << 41 | 1 << 44 | 1 << 60 | 1 << 61 | 1 << 62;
+// and, from 64 on: [ ] n x z
 const HIGH: u64 = 1 << 27 | 1 << 29 | 1 << 46 | 1 << 56 | 1 << 58;
 
-// Whether no entry goes past the byte. It is looked up and not matched: a processor can't guess which byte comes.
+// Whether no entry goes past the byte. It is looked up, not matched: which byte comes can't be guessed.
 fn stop(b: u8) -> bool
     ensures { λ r. ⌜ r ≡ stop b ⌝ }
 {
@@ -140,81 +141,38 @@ fn any_dim(s: &[u8], at: usize, from: usize, x: bool) -> Next64
     }
 }
 
-// A dimension of a list by commas. The same walk stands twice: where each has its own, a processor guesses better where numerals end.
-fn dim_of_list(s: &[u8], at: usize) -> Next64
-    ensures { λ r. ⌜ Due false (now (s .entry)) at r ⌝ }
-{
-    let i = skip_white(s, at);
-    let b = peek(s, i);
-    if b == 63 {
-        let e = skip_white(s, i + 1);
-        if stop(peek(s, e)) {
-            return Next64 {
-                value: DYNAMIC,
-                fell: 0,
-                end: e,
-            };
-        }
-        return any_dim(s, at, e, false);
-    }
-    let neg = b == 45;
-    let k = if neg { i + 1 } else { i };
-    let r = digits(s, k);
-    let n = r.value;
-    let j = r.end;
-    let e = skip_white(s, j);
-    if (k < j) & stop(peek(s, e)) {
-        return Next64 {
-            value: signed64(n, neg),
-            fell: 0,
-            end: e,
-        };
-    }
-    any_dim(s, at, e, false)
-}
-
-// A dimension that should end at an `x`.
-fn dim_of_shape(s: &[u8], at: usize) -> Next64
-    ensures { λ r. ⌜ Due true (now (s .entry)) at r ⌝ }
-{
-    let i = skip_white(s, at);
-    let b = peek(s, i);
-    if b == 63 {
-        let e = skip_white(s, i + 1);
-        if stop(peek(s, e)) {
-            return Next64 {
-                value: DYNAMIC,
-                fell: 0,
-                end: e,
-            };
-        }
-        return any_dim(s, at, e, true);
-    }
-    let neg = b == 45;
-    let k = if neg { i + 1 } else { i };
-    let r = digits(s, k);
-    let n = r.value;
-    let j = r.end;
-    let e = skip_white(s, j);
-    if (k < j) & stop(peek(s, e)) {
-        return Next64 {
-            value: signed64(n, neg),
-            fell: 0,
-            end: e,
-        };
-    }
-    any_dim(s, at, e, true)
-}
-
 // The dimension that stands from `at` on before the next structural byte, and the place of that byte. Where it should end at an `x` and
 // doesn't, it may be left unread.
 pub(crate) fn next_dim(s: &[u8], at: usize, x: bool) -> Next64
     ensures { λ r. ⌜ Due x (now (s .entry)) at r ⌝ }
 {
-    if x {
-        return dim_of_shape(s, at);
+    let i = skip_white(s, at);
+    let b = peek(s, i);
+    if b == 63 {
+        let e = skip_white(s, i + 1);
+        if stop(peek(s, e)) {
+            return Next64 {
+                value: DYNAMIC,
+                fell: 0,
+                end: e,
+            };
+        }
+        return any_dim(s, at, e, x);
     }
-    dim_of_list(s, at)
+    let neg = b == 45;
+    let k = if neg { i + 1 } else { i };
+    let r = digits(s, k);
+    let n = r.value;
+    let j = r.end;
+    let e = skip_white(s, j);
+    if (k < j) & stop(peek(s, e)) {
+        return Next64 {
+            value: signed64(n, neg),
+            fell: 0,
+            end: e,
+        };
+    }
+    any_dim(s, at, e, x)
 }
 
 fn signed32(n: u64, neg: bool) -> i32
