@@ -212,7 +212,7 @@ fn judge(p: Parsed) -> Reading
 pub fn parse(text: &[u8]) -> Reading
     ensures { λ r. ⌜ r ≡ ordinary 8 1024 (now (text .entry)) ⌝ }
 {
-    let t = &text[..];
+    let t = &text[..]; // handed on as two words (decision 55)
     let r = strict::skim(t);
     let refusal = r.refusal;
     if refusal.number() != 5 {

@@ -20,7 +20,7 @@ fn kind_t(s: &[u8], at: usize, k: usize) -> Picked
     requires { ⌜ k ≤ 23 ⌝ }
     ensures { λ r. ⌜ Told (now (s .entry)) at (among (advance 116 (kinds k)) (drop at (now (s .entry)))) (r .word) (r .end) ⌝ }
 {
-    let t = &s[..];
+    let t = &s[..]; // handed on as two words (decision 55)
     match peek(t, at) {
         101 => fit(t, at + 1, b"nsor_view<", k + 6),
         105 => fit(t, at + 1, b"le<", k + 4),
@@ -35,7 +35,7 @@ fn kind(s: &[u8], at: usize, k: usize) -> Picked
     requires { ⌜ k ≤ 23 ⌝ }
     ensures { λ r. ⌜ Told (now (s .entry)) at (among (kinds k) (drop at (now (s .entry)))) (r .word) (r .end) ⌝ }
 {
-    let t = &s[..];
+    let t = &s[..]; // handed on as two words (decision 55)
     match peek(t, at) {
         103 => fit(t, at + 1, b"ather_scatter_view<tile=(", k + 10),
         112 => fork(t, at + 1, b"tr<", k + 2, b"artition_view<tile=(", k + 8),
@@ -71,7 +71,7 @@ fn head_t(s: &[u8], at: usize) -> Picked
 pub(crate) fn read_head(s: &[u8]) -> Picked
     ensures { λ r. ⌜ Told (now (s .entry)) 0 (choose heads (now (s .entry))) (r .word) (r .end) ⌝ }
 {
-    let t = &s[..];
+    let t = &s[..]; // handed on as two words (decision 55)
     match peek(t, 0) {
         33 => kind_full(t, 1),
         98 => fork(t, 1, b"f16", 7, b"ool", 21),

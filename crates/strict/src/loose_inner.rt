@@ -47,7 +47,7 @@ pub(crate) fn loose_pointee(s: &[u8], from: usize, bare: &[u8], marked: &[u8]) -
     requires { ⌜ T (differ (now bare) (now marked)) ⌝ }
     ensures { λ r. ⌜ Told (now (s .entry)) (place (now (s .entry)) from) (next (now (s .entry)) (pointed (now (bare .entry)) (now (marked .entry))) from) (cored r) (r .end) ⌝ }
 {
-    let t = &s[..];
+    let t = &s[..]; // handed on as two words (decision 55)
     let n = loose_name(t, from);
     let m = fork(t, n.end, bare, 0, marked, 1);
     Core {
@@ -123,7 +123,7 @@ pub(crate) fn loose_tensor(s: &[u8], from: usize, shape: &mut [i64], strides: &m
     requires { ⌜ length (now s) ≤ 1024 ⌝ }
     ensures { λ r. ⌜ Told (now (s .entry)) (place (now (s .entry)) from) (next (now (s .entry)) tensor from) (bodied (now (shape .exit)) (now (strides .exit)) r) (r .end) ⌝ }
 {
-    let t = &s[..];
+    let t = &s[..]; // handed on as two words (decision 55)
     let l = loose_shape(t, from, shape);
     let n = loose_name(t, l.end);
     let k = read_open(t, n.end);

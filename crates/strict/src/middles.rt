@@ -99,7 +99,7 @@ fn open_view(s: &[u8], at: usize, k: usize) -> Picked
     requires { ⌜ k ≤ 1 ⌝ }
     ensures { λ r. ⌜ Told (now (s .entry)) at (among ((bytes "padding_value=" ↝ k) ∷ tensors (k + 2)) (drop at (now (s .entry)))) (r .word) (r .end) ⌝ }
 {
-    let t = &s[..];
+    let t = &s[..]; // handed on as two words (decision 55)
     if peek(t, at) == 112 {
         return fit(t, at + 1, b"adding_value=", k);
     }

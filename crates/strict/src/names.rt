@@ -46,7 +46,7 @@ fn name_f8_by(s: &[u8], at: usize, w: &[u8], m: &[u8], v: &[u8], x: &[u8], k: us
     requires { ⌜ k ≤ 1 ⌝ }
     ensures { λ r. ⌜ Told (now (s .entry)) at (among (eights (now (w .entry)) (now (m .entry)) (now (v .entry)) (now (x .entry)) k) (drop at (now (s .entry)))) (r .word) (r .end) ⌝ }
 {
-    let t = &s[..];
+    let t = &s[..]; // handed on as two words (decision 55)
     match peek(t, at) {
         52 => fit(t, at + 1, w, 11 + k),
         53 => {
@@ -75,7 +75,7 @@ pub(crate) fn name_f(s: &[u8], at: usize) -> Picked
     requires { ⌜ at ≤ length (now s) ⌝ }
     ensures { λ r. ⌜ Told (now (s .entry)) at (among (named (bytes "f")) (drop at (now (s .entry)))) (r .word) (r .end) ⌝ }
 {
-    let t = &s[..];
+    let t = &s[..]; // handed on as two words (decision 55)
     match peek(t, at) {
         49 => fit(t, at + 1, b"6", 6),
         51 => fit(t, at + 1, b"2", 8),
@@ -91,7 +91,7 @@ pub(crate) fn read_name(s: &[u8], from: usize) -> Picked
     requires { ⌜ place (now s) from ≤ length (now s) ⌝ }
     ensures { λ r. ⌜ Told (now (s .entry)) (place (now (s .entry)) from) (next (now (s .entry)) (choose names) from) (r .word) (r .end) ⌝ }
 {
-    let t = &s[..];
+    let t = &s[..]; // handed on as two words (decision 55)
     if s.len() < from {
         return found(0, from);
     }
@@ -109,7 +109,7 @@ pub(crate) fn read_core_name(s: &[u8], from: usize) -> Picked
     requires { ⌜ place (now s) from ≤ length (now s) ⌝ }
     ensures { λ r. ⌜ Told (now (s .entry)) (place (now (s .entry)) from) (next (now (s .entry)) (choose kerns) from) (r .word) (r .end) ⌝ }
 {
-    let t = &s[..];
+    let t = &s[..]; // handed on as two words (decision 55)
     if s.len() < from {
         return found(0, from);
     }

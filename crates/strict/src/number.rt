@@ -38,7 +38,7 @@ pub(crate) struct Num64 {
     pub(crate) end: usize,
 }
 
-// Digits from `at` on, as long as the value is at most `most`.
+// Digits from `at` on, as long as the value is at most `most`; a digit is held to that only where it may pass it.
 fn grow(s: &[u8], at: usize, v: u64, most: u64) -> Grown
     requires { ⌜ at ≤ length (now s) ⌝ }
     requires { ⌜ v ≤ most ⌝ }

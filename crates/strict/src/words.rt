@@ -95,7 +95,7 @@ pub(crate) fn read_two(s: &[u8], from: usize, lead: &[u8], v: &[u8], w: &[u8]) -
     requires { ⌜ T (differ (now v) (now w)) ⌝ }
     ensures { λ r. ⌜ Told (now (s .entry)) (place (now (s .entry)) from) (next (now (s .entry)) (among (both (now (lead .entry)) (now (v .entry)) 0 (now (w .entry)) 1)) from) (r .word) (r .end) ⌝ }
 {
-    let t = &s[..];
+    let t = &s[..]; // handed on as two words (decision 55)
     let p = read_word(t, from, lead);
     fork(t, p.end, v, 0, w, 1)
 }

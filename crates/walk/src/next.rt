@@ -159,6 +159,9 @@ pub(crate) fn next_dim(s: &[u8], at: usize, x: bool) -> Next64
         }
         return any_dim(s, at, e, x);
     }
+    if 57 < b { // no numeral begins so: mostly the element
+        return any_dim(s, at, i, x);
+    }
     let neg = b == 45;
     let k = if neg { i + 1 } else { i };
     let r = digits(s, k);

@@ -20,8 +20,8 @@ abbrev μ-loop : tie.MeasureT-loop
 fits : (c : tie.Joined3 Inv-loop μ-loop) → c .before .before .before .before .before .loop .n * 10 + (getD (c .before .before .before .before .before .before .args .s .now) (c .before .before .before .before .before .loop .i) 0 - 48) ≤ c .before .before .before .before .before .before .args .most
 fits c =
     elim (c .if3 .came) [
-      inl h ↦ L.last-fits _ _ _ (h .1 .left) (h .2 .left)
-    | inr h ↦ L.any-fits _ _ _ (h .left) (c .before .if2 .left)
+      | inl h ↦ L.last-fits _ _ _ (h .1 .left) (h .2 .left)
+      | inr h ↦ L.any-fits _ _ _ (h .left) (c .before .if2 .left)
     ]
 
 pub grow-spec : {M : Type 1} → statement M

@@ -34,23 +34,25 @@ next-dim-spec =
     (λ c κs. let t = c .before .before in let p = t .before .before .before in let a = p .before .before .before .args in
     L.unknown-len (a .s .now) (a .at) (p .before .skip-white .ensures) (sym (p .peek .ensures) ∙ t .before .before .if1 .taken) (t .before .skip-white2 .ensures))
     (λ c. search needs)
-    (λ c. let p = c .before .before in omega (arith, W.seen (p .before .before .before .args .s .now) (p .before .skip-white .result) (sym (p .peek .ensures) ∙ eqb-true _ 45 (c .if3 .taken)) (omega arith)))
+    (λ c κs. let p = c .before .before in let a = p .before .before .before .args in W.white-len L.quiet (a .s .now) (a .at) (p .before .skip-white .ensures))
+    (λ c. search needs)
+    (λ c. let p = c .before .before .before in omega (arith, W.seen (p .before .before .before .args .s .now) (p .before .skip-white .result) (sym (p .peek .ensures) ∙ eqb-true _ 45 (c .if4 .taken)) (omega arith)))
     (λ c κs. search needs)
     (λ c κs. search needs)
     (λ c κs. search needs)
     (λ c κs. search needs)
     (λ c κs. search needs)
-    (λ c. let st = c .before .before in let d = st .before .before .before in let f = d .before .if3 in let p = d .before .before .before in let i = p .before .skip-white .result in
+    (λ c. let st = c .before .before in let d = st .before .before .before in let f = d .before .if4 in let p = d .before .before .before .before in let i = p .before .skip-white .result in
     let a = p .before .before .before .args in
     let k : f .k ≡ if eqb (p .peek .result) 45 then i + 1 else i =
     ⊎-elim (λ w. w .1 ∙ ap (λ (n : Bool). if n then i + 1 else i) (sym (w .0 .taken))) (λ w. w .1 ∙ ap (λ (n : Bool). if n then i + 1 else i) (sym (w .0 .left))) (f .came) in
     let g = L.gone (a .s .now) (a .at) (p .before .skip-white .ensures) (p .peek .ensures) k (d .digits .ensures .0) (st .before .before .skip-white3 .ensures) in
-    let t = c .before .if4 .taken in
+    let t = c .before .if5 .taken in
     let h = ap stop (sym (st .before .peek3 .ensures)) ∙ sym (st .stop2 .ensures) ∙ right (ltb (f .k) (d .digits .result .end)) (st .stop2 .result) t in
     let z = ltb-true (f .k) (d .digits .result .end) (L.left (ltb (f .k) (d .digits .result .end)) (st .stop2 .result) t) in H.told-due
     (W.gone-end L.quiet g h z)
     (L.read-told (search needs ∙ c .signed64 .ensures) (known _ (W.gone-numeral L.quiet g h z 64 (omega (arith, d .digits .ensures .1))))))
-    (λ c κs. let st = c .before in let d = st .before .before .before in let f = d .before .if3 in let p = d .before .before .before in let i = p .before .skip-white .result in
+    (λ c κs. let st = c .before in let d = st .before .before .before in let f = d .before .if4 in let p = d .before .before .before .before in let i = p .before .skip-white .result in
     let a = p .before .before .before .args in
     let k : f .k ≡ if eqb (p .peek .result) 45 then i + 1 else i =
     ⊎-elim (λ w. w .1 ∙ ap (λ (n : Bool). if n then i + 1 else i) (sym (w .0 .taken))) (λ w. w .1 ∙ ap (λ (n : Bool). if n then i + 1 else i) (sym (w .0 .left))) (f .came) in

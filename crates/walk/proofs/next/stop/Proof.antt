@@ -15,6 +15,6 @@ stop-spec =
     (λ c. search needs)
     (λ c. let b = c .before .before .args .b in
     elim (c .before .if1 .came) [
-      inl h ↦ ap (λ (z : ℕ). L.bit z b) (h .1) ∙ L.low b (h .0 .taken)
-    | inr h ↦ ap (λ (z : ℕ). L.bit z b) (h .1) ∙ L.high b (h .0 .left) (search needs)
+      | inl h ↦ ap (λ (z : ℕ). L.bit z b) (h .1) ∙ L.low b (h .0 .taken)
+      | inr h ↦ ap (λ (z : ℕ). L.bit z b) (h .1) ∙ L.high b (h .0 .left) (search needs)
     ]))
