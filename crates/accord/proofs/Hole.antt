@@ -64,7 +64,7 @@ back-kept C (c ∷ []) h = kept-behind C c [] (ap (λ (k : Bool). if k then [] e
 back-kept C (c ∷ d ∷ l) h = kept-behind C c (d ∷ l) (back-kept C (d ∷ l) h (c ∷ []))
 
 -- what is left is kept
-back-twice : (C : ℕ → Bool) (t : List ℕ) → less-trailing C (less-trailing C t) ≡ less-trailing C t
+pub back-twice : (C : ℕ → Bool) (t : List ℕ) → less-trailing C (less-trailing C t) ≡ less-trailing C t
 back-twice C [] = refl
 back-twice C (c ∷ t) = by (less-trailing C t) (back-twice C t)
   where

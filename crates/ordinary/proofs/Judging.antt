@@ -52,7 +52,7 @@ module _ (s : Text) {r : Reading} (e : r ≡ skimmed s) where
   unfolding skimmed refused
   left-short n = by (leb (length s) 1024) (leb→le (length s) 1024) (sym (ap (λ (x : Reading). number (x .refusal)) e) ∙ n)
     where
-      by : (b : Bool) → (T b → length s ≤ 1024) → number ((if b then whole (loosely (trim s)) else refused 8 TooLong 0) .refusal) ≡ 5 → length s ≤ 1024
+      by : (b : Bool) → (T b → length s ≤ 1024) → number ((if b then whole (trim s) (loosely (trim s)) else refused 8 TooLong 0) .refusal) ≡ 5 → length s ≤ 1024
       by true l m = l tt
       by false l m = let f : ⊥ = omega arith in absurd f
 

@@ -8,5 +8,6 @@ pub mod Sights
 pub mod Shown
 pub mod Viewed
 pub mod Walked
+pub mod Hopeless
 pub mod Right
 pub mod Examples

@@ -115,9 +115,11 @@ none-high : (k : ℕ) (s : Text) → T (every ascii s) → high-from k s ≡ non
 none-high k [] h = refl
 none-high k (c ∷ s) h = ap (λ (b : Bool). if b then some k else high-from (suc k) s) (T-not-eq (leb 128 c) (and-left (ascii c) (every ascii s) h)) ∙ none-high (suc k) s (and-right (ascii c) (every ascii s) h)
 
-quiet-low : (c : ℕ) → T (quiet c) → T (ascii c)
+pub quiet-low : (c : ℕ) → T (quiet c) → T (ascii c)
 quiet-low c h = not-T (leb 128 c) (λ k. let q = leb→le 128 c k in let z = ltb→lt c 128 (and-left (ltb c 128) (not (eqb c 35)) h) in omega arith)
 
+pub low-trimmed : (s : Text) → T (every ascii (trim s)) → high-from 0 s ≡ none
+low-trimmed s h = none-high 0 s (lead-low s (trail-low (less-leading white s) h))
+
 pub low : (t : Text) (e : Walk.Found) (r : Text) → loosely t ≡ got e r → T (ended (e .kind) r) → (s : Text) → trim s ≡ t → high-from 0 s ≡ none
-low t e r q n s h = none-high 0 s (lead-low s (trail-low (less-leading white s) (subst (λ (u : Text). T (every ascii u)) (sym h)
-    (subst (W.Walk t (Whole t)) q (whole t) .1 (left-class ascii quiet-low (e .kind) r n)))))
+low t e r q n s h = low-trimmed s (subst (λ (u : Text). T (every ascii u)) (sym h) (subst (W.Walk t (Whole t)) q (whole t) .1 (left-class ascii quiet-low (e .kind) r n)))

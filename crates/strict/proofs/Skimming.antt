@@ -18,7 +18,7 @@ use Rattle.meaning.specs.declared.Padding.{Padding}
 use Rattle.meaning.specs.declared.Record.{Record}
 use Rattle.meaning.specs.declared.Note.{Note}
 use Rattle.meaning.specs.declared.Reading.{Reading}
-use Rattle.meaning.specs.declared.Refusal.the-variants.{Accepted, TooLong, NotStrict, TooMany}
+use Rattle.meaning.specs.declared.Refusal.the-variants.{Accepted, TooLong, NoType, NotStrict, TooMany}
 use Rattle.meaning.specs.Found.{Clause, filled, padded}
 use Rattle.meaning.specs.Ordinary.{refused}
 use Rattle.meaning.specs.Tile.{DYNAMIC}
@@ -248,18 +248,18 @@ module _ (s : Text) (f : W.Found) (d : ℕ) where
   pub few-at : length s ≤ 1024 → loosely s ≡ valued s f d → come ≡ true → Bounded f
   few-at h q k = bounded s h f (drop d s) (q ∙ valued-past s f d (leb-true d (length s) (left (leb d (length s)) (W.ended (f .kind) (drop d s)) k)))
 
-  pub other : come ≡ false → refused 8 NotStrict 0 ≡ W.whole (valued s f d)
+  pub other : come ≡ false → refused 8 (W.missed s) 0 ≡ W.whole s (valued s f d)
   other = by (leb d (length s))
     where
-      by : (k : Bool) → k && W.ended (f .kind) (drop d s) ≡ false → refused 8 NotStrict 0 ≡ W.whole (cond k (got f (drop d s)) (stuck (drop (d - (length s + 1)) s)))
-      by true e = sym (ap (λ (b : Bool). if b then W.answered f else refused 8 NotStrict 0) e)
+      by : (k : Bool) → k && W.ended (f .kind) (drop d s) ≡ false → refused 8 (W.missed s) 0 ≡ W.whole s (cond k (got f (drop d s)) (stuck (drop (d - (length s + 1)) s)))
+      by true e = sym (ap (λ (b : Bool). if b then W.answered f else refused 8 (W.missed s) 0) e)
       by false e = refl
 
-  pub at-end : come ≡ true → W.answered f ≡ W.whole (valued s f d)
+  pub at-end : come ≡ true → W.answered f ≡ W.whole s (valued s f d)
   at-end = by (leb d (length s))
     where
-      by : (k : Bool) → k && W.ended (f .kind) (drop d s) ≡ true → W.answered f ≡ W.whole (cond k (got f (drop d s)) (stuck (drop (d - (length s + 1)) s)))
-      by true e = sym (ap (λ (b : Bool). if b then W.answered f else refused 8 NotStrict 0) e)
+      by : (k : Bool) → k && W.ended (f .kind) (drop d s) ≡ true → W.answered f ≡ W.whole s (cond k (got f (drop d s)) (stuck (drop (d - (length s + 1)) s)))
+      by true e = sym (ap (λ (b : Bool). if b then W.answered f else refused 8 (W.missed s) 0) e)
       by false e = absurd (subst T (sym e) tt)
 
 -- what may follow
@@ -288,6 +288,33 @@ quiet-end s i a h = ap (λ (t : Text). a && every W.quiet t) (drop-of-length-le 
     by true = refl
     by false = refl
 
+-- a text that isn't walked to its end, by its first word
+module _ (s : Text) where
+  pub kind-led : getD s 0 0 ≡ 33 → getD s 11 0 ≡ W.lead s
+  kind-led e = sym (rw e)
+
+  pub self-led : (getD s 0 0 ≡ 33 → ⊥) → getD s 0 0 ≡ W.lead s
+  self-led n = sym (rw (ne-eqb (getD s 0 0) 33 n))
+
+  module _ (k e : ℕ) (q : choose heads s ≡ valued s k e) where
+    pub worded : e ≤ length s → false ≡ W.hopeless s
+    unfolding W.hopeless
+    worded h = sym (rw (q, le-leb e (length s) h))
+
+    pub viewish : length s < e → W.view-led (W.lead s) ≡ true → false ≡ W.hopeless s
+    unfolding W.hopeless
+    viewish h v = sym (rw (q, lt-leb e (length s) h, v))
+
+    pub wordless : length s < e → W.view-led (W.lead s) ≡ false → every W.quiet s ≡ W.hopeless s
+    unfolding W.hopeless
+    wordless h v = sym (rw (q, lt-leb e (length s) h, v))
+
+  pub no-type : W.hopeless s ≡ true → NoType ≡ W.missed s
+  no-type e = sym (rw e)
+
+  pub left-over : W.hopeless s ≡ false → NotStrict ≡ W.missed s
+  left-over e = sym (rw e)
+
 pub trim-short : (s : Text) → length s ≤ 1024 → {t : Text} → t ≡ trim s → length t ≤ 1024
 trim-short s h e = subst (λ (t : Text). length t ≤ 1024) (sym e) (let k = trim-within s in omega arith)
 
@@ -296,6 +323,6 @@ module _ (s : Text) {r : Reading} where
   unfolding W.skimmed
   too-long h e = rw (lt-leb (length s) 1024 h) e
 
-  pub in-time : length s ≤ 1024 → {t : Text} → t ≡ trim s → r ≡ W.whole (loosely t) → r ≡ W.skimmed s
+  pub in-time : length s ≤ 1024 → {t : Text} → t ≡ trim s → r ≡ W.whole t (loosely t) → r ≡ W.skimmed s
   unfolding W.skimmed
-  in-time h k e = rw (le-leb (length s) 1024 h) (e ∙ ap (λ (t : Text). W.whole (loosely t)) k)
+  in-time h k e = rw (le-leb (length s) 1024 h) (e ∙ ap (λ (t : Text). W.whole t (loosely t)) k)

@@ -3,7 +3,7 @@
 -- are laid out with their counts. No part of document 01: the crate `skim` shows what it is worth.
 use Prim.Native.Nat.{ℕ, _-_, _+_}
 use Prim.Native.Char.{code}
-use mathlib.Core.Bool.{Bool, true, false, cond, not, _&&_}
+use mathlib.Core.Bool.{Bool, true, false, cond, not, _&&_, _||_}
 use mathlib.Core.List as L
 use mathlib.Core.List.{List, [], _∷_}
 use lib.Dec.{eqb, leb, ltb}
@@ -15,7 +15,8 @@ use Rattle.meaning.specs.declared.Kind.the-variants as K
 use Rattle.meaning.specs.declared.Record.{Record}
 use Rattle.meaning.specs.declared.Note.{Note}
 use Rattle.meaning.specs.declared.Reading.{Reading}
-use Rattle.meaning.specs.declared.Refusal.the-variants.{Accepted, TooLong, NotStrict, TooMany}
+use Rattle.meaning.specs.declared.Refusal.{Refusal}
+use Rattle.meaning.specs.declared.Refusal.the-variants.{Accepted, TooLong, NoType, NotStrict, TooMany}
 use Rattle.meaning.specs.Ordinary.{refused}
 use Rattle.meaning.specs.Parts.{last, front}
 use Rattle.meaning.specs.Found.{Entry, Clause, stands, filled, unused}
@@ -250,7 +251,7 @@ from-head k r = cond (ltb k 22) (got (simple K.Scalar false k false none none) r
 unfoldable pub loosely : Text → Answer Found
 loosely t = after from-head (choose heads t)
 
--- ── the answer: a text that isn't walked to its end gets refusal 5 here, and is then read otherwise ──
+-- ── the answer: a text that isn't walked to its end gets refusal 5 here, and is then read otherwise; or 3, where no type begins like it ──
 
 abbrev pub record-of : Found → Record
 record-of f = record {
@@ -305,9 +306,28 @@ abbrev pub ended : Kind → Text → Bool
 ended k [] = true
 ended k (c ∷ r) = bracketed k && every quiet (c ∷ r)
 
-abbrev pub whole : Answer Found → Reading
-whole (got f r) = if ended (f .kind) r then answered f else refused 8 NotStrict 0
-whole (stuck r) = refused 8 NotStrict 0
+abbrev pub no-word : Answer ℕ → Bool
+no-word (got k r) = false
+no-word (stuck r) = true
+
+-- the first byte of a kind's name, if one stands there
+abbrev pub lead : Text → ℕ
+lead s = if eqb (getD s 0 0) (code "!") then getD s 11 0 else getD s 0 0
+
+-- that of a view: its first word in the table is longer than what its form opens with
+abbrev pub view-led : ℕ → Bool
+view-led c = eqb c (code "g") || eqb c (code "p") || eqb c (code "s")
+
+-- no type begins so, and nothing in it can be a mark
+unfoldable pub hopeless : Text → Bool
+hopeless s = no-word (choose heads s) && not (view-led (lead s)) && every quiet s
+
+abbrev pub missed : Text → Refusal
+missed s = if hopeless s then NoType else NotStrict
+
+abbrev pub whole : Text → Answer Found → Reading
+whole s (got f r) = if ended (f .kind) r then answered f else refused 8 (missed s) 0
+whole s (stuck r) = refused 8 (missed s) 0
 
 unfoldable pub skimmed : Text → Reading
-skimmed s = if leb (length s) 1024 then whole (loosely (trim s)) else refused 8 TooLong 0
+skimmed s = if leb (length s) 1024 then whole (trim s) (loosely (trim s)) else refused 8 TooLong 0

@@ -9,6 +9,7 @@ use super::loose_inner::loose_tensor;
 use super::loose_inner::loose_tile;
 use super::loose_view::Whole;
 use super::loose_view::loose_view;
+use super::words::peek;
 use lists::List32;
 use lists::List64;
 use meaning::CAP;
@@ -28,7 +29,7 @@ ghost use Rattle.lists.specs.Laid.{list64, list32};
 ghost use Rattle.meaning.specs.Found.{padded};
 ghost use Rattle.strict.specs.Cursor.{Told};
 ghost use Rattle.grammar.specs.Tests.{every};
-ghost use Rattle.strict.specs.Loose.{loosely, record-of, answered, quiet, bracketed, ended, whole, skimmed};
+ghost use Rattle.strict.specs.Loose.{loosely, record-of, answered, quiet, bracketed, ended, lead, view-led, hopeless, missed, whole, skimmed};
 ghost use Rattle.strict.specs.LooseParts as P;
 
 // A type that is no view; where `given` is false, DYNAMIC stands for each stride.
@@ -353,10 +354,53 @@ fn ended(s: &[u8], e: usize, k: Kind) -> bool
     quiet_from(s, e)
 }
 
+// The first byte of a kind's name, if one stands there.
+fn lead(s: &[u8]) -> u8
+    ensures { λ r. ⌜ r ≡ lead (now (s .entry)) ⌝ }
+{
+    if peek(s, 0) == 33 {
+        return peek(s, 11);
+    }
+    peek(s, 0)
+}
+
+// Whether it is that of a view.
+fn view_led(c: u8) -> bool
+    ensures { λ r. ⌜ r ≡ view-led c ⌝ }
+{
+    (c == 103) | (c == 112) | (c == 115)
+}
+
+// Whether no type begins as `s` does, and nothing in it can be a mark. What begins like a view is left to the reading as in `types.rs`.
+fn hopeless(s: &[u8]) -> bool
+    ensures { λ r. ⌜ r ≡ hopeless (now (s .entry)) ⌝ }
+{
+    let t = &s[..]; // handed on as two words (decision 55)
+    let k = read_head(t);
+    if k.end <= t.len() {
+        return false;
+    }
+    if view_led(lead(t)) {
+        return false;
+    }
+    quiet_from(t, 0)
+}
+
+// How a text is refused that isn't walked to its end.
+fn missed(s: &[u8]) -> Refusal
+    ensures { λ r. ⌜ r ≡ missed (now (s .entry)) ⌝ }
+{
+    if hopeless(s) {
+        Refusal::NoType
+    } else {
+        Refusal::NotStrict
+    }
+}
+
 // What a trimmed text is, if it is walked to its end.
 fn walked(s: &[u8]) -> Reading
     requires { ⌜ length (now s) ≤ 1024 ⌝ }
-    ensures { λ r. ⌜ r ≡ whole (loosely (now (s .entry))) ⌝ }
+    ensures { λ r. ⌜ r ≡ whole (now (s .entry)) (loosely (now (s .entry))) ⌝ }
 {
     let mut shape = [0i64; CAP];
     let mut strides = [0i64; CAP];
@@ -366,7 +410,7 @@ fn walked(s: &[u8]) -> Reading
     let w = loose_whole(s, &mut shape, &mut strides, &mut tile, &mut map, &mut walk);
     let kind = w.kind;
     if !ended(s, w.end, kind) {
-        return refuse(Refusal::NotStrict, 0);
+        return refuse(missed(s), 0);
     }
     let m = strides_of(w, strides);
     let y = map_of(w, map);
@@ -374,8 +418,8 @@ fn walked(s: &[u8]) -> Reading
     answer(w, shape, m, tile, y, z)
 }
 
-// The type of a text whose clauses stand in their usual places, with the default counts; or the refusal 1 or 4; or 5, and the text is to be
-// read otherwise.
+// The type of a text whose clauses stand in their usual places, with the default counts; or the refusal 1, 3 or 4; or 5, and the text is to
+// be read otherwise.
 pub fn skim(text: &[u8]) -> Reading
     ensures { λ r. ⌜ r ≡ skimmed (now (text .entry)) ⌝ }
 {

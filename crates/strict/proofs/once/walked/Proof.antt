@@ -3,6 +3,8 @@ use Rattle.strict.proofs.Skimming as L
 use Rattle.strict.specs.LooseParts as P
 use Rattle.strict.specs.Loose as W
 use mathlib.Core.Path.{refl, sym, ap, subst, _∙_}
+use Rattle.meaning.specs.declared.Refusal.{Refusal}
+use Rattle.meaning.specs.Ordinary.{refused}
 use borrow.Author.Tests.{not-true, not-false}
 use borrow.Author.Needs.{needs}
 use Rattle.strict.proofs.once.walked.Statement.{statement}
@@ -20,8 +22,9 @@ walked-spec =
     (λ c κs. (refl, (refl, (refl, (refl, (refl, c .before .before .before .before .before .before .pre))))))
     (λ c κs. search needs)
     (λ c κs. search needs)
-    (λ c. let s = c .before .before .before .before .before .before .before .before .before .before .before .before .before .before .before .args .s .now in let m = c .before .before .before .before .before .before .before .before .loose-whole in let w = m .result in
-    c .refuse .ensures ∙ L.other s (P.whole (m .last .1 .0) (m .last .1 .1 .0) (m .last .1 .1 .1 .0) (m .last .1 .1 .1 .1 .0) (m .last .1 .1 .1 .1 .1 .0) w) (w .end) (sym (c .before .before .ended .ensures) ∙ not-true _ (c .before .if1 .taken)) ∙ sym (ap W.whole (m .ensures .same)))
+    (λ c κs. search needs)
+    (λ c. let p = c .before in let s = p .before .before .before .before .before .before .before .before .before .before .before .before .before .before .before .args .s .now in let m = p .before .before .before .before .before .before .before .before .loose-whole in let w = m .result in
+    c .refuse .ensures ∙ ap (λ (v : Refusal). refused 8 v 0) (p .missed .ensures) ∙ L.other s (P.whole (m .last .1 .0) (m .last .1 .1 .0) (m .last .1 .1 .1 .0) (m .last .1 .1 .1 .1 .0) (m .last .1 .1 .1 .1 .1 .0) w) (w .end) (sym (p .before .before .ended .ensures) ∙ not-true _ (p .before .if1 .taken)) ∙ sym (ap (W.whole s) (m .ensures .same)))
     (λ c κs. search needs)
     (λ c κs. search needs)
     (λ c κs. search needs)
@@ -30,4 +33,4 @@ walked-spec =
     (L.few-at (o .args .s .now) (P.whole (m .last .1 .0) (m .last .1 .1 .0) (m .last .1 .1 .1 .0) (m .last .1 .1 .1 .1 .0) (m .last .1 .1 .1 .1 .1 .0) w) (w .end) (o .pre) (m .ensures .same) (sym (c .before .before .before .before .ended .ensures) ∙ not-false _ (c .before .before .before .if1 .left))))
     (λ c. let s = c .before .before .before .before .before .before .before .before .before .before .before .before .before .before .before .before .before .before .args .s .now in let m = c .before .before .before .before .before .before .before .before .before .before .before .loose-whole in let w = m .result in
     c .answer .ensures ∙ (λ i. W.answered (P.with-lists (m .last .1 .0) (c .before .before .before .strides-of .ensures i) (m .last .1 .1 .1 .0) (c .before .before .map-of .ensures i) (c .before .walk-of .ensures i) w))
-    ∙ L.at-end s (P.whole (m .last .1 .0) (m .last .1 .1 .0) (m .last .1 .1 .1 .0) (m .last .1 .1 .1 .1 .0) (m .last .1 .1 .1 .1 .1 .0) w) (w .end) (sym (c .before .before .before .before .before .ended .ensures) ∙ not-false _ (c .before .before .before .before .if1 .left)) ∙ sym (ap W.whole (m .ensures .same))))
+    ∙ L.at-end s (P.whole (m .last .1 .0) (m .last .1 .1 .0) (m .last .1 .1 .1 .0) (m .last .1 .1 .1 .1 .0) (m .last .1 .1 .1 .1 .1 .0) w) (w .end) (sym (c .before .before .before .before .before .ended .ensures) ∙ not-false _ (c .before .before .before .before .if1 .left)) ∙ sym (ap (W.whole s) (m .ensures .same))))
