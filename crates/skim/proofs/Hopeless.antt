@@ -183,16 +183,31 @@ module _ (s : Text) (n : T (no-word (choose heads s))) where
 
     all-shut : Shut forms s
     unfolding forms
-    all-shut =
-        (no-form (bytes "!cuda_tile.tile<") tt,
-        (no-form (bytes "!cuda_tile.tensor_view<") tt,
-        (no-view (bytes "!cuda_tile.partition_view<") (λ t. tt),
-        (no-view (bytes "!cuda_tile.gather_scatter_view<") (λ t. tt),
-        (no-view (bytes "!cuda_tile.strided_view<") (λ t. tt),
-        (no-form (bytes "!cuda_tile.ptr<") tt,
-        (no-form (bytes "tile<") tt,
-        (no-form (bytes "tensor_view<") tt,
-        (no-view (bytes "partition_view<") (λ t. tt), (no-view (bytes "gather_scatter_view<") (λ t. tt), (no-view (bytes "strided_view<") (λ t. tt), (no-form (bytes "ptr<") tt, tt))))))))))))
+    all-shut = (
+      no-form (bytes "!cuda_tile.tile<") tt,
+      (
+        no-form (bytes "!cuda_tile.tensor_view<") tt,
+        (
+          no-view (bytes "!cuda_tile.partition_view<") (λ t. tt),
+          (
+            no-view (bytes "!cuda_tile.gather_scatter_view<") (λ t. tt),
+            (
+              no-view (bytes "!cuda_tile.strided_view<") (λ t. tt),
+              (
+                no-form (bytes "!cuda_tile.ptr<") tt,
+                (
+                  no-form (bytes "tile<") tt,
+                  (
+                    no-form (bytes "tensor_view<") tt,
+                    (no-view (bytes "partition_view<") (λ t. tt), (no-view (bytes "gather_scatter_view<") (λ t. tt), (no-view (bytes "strided_view<") (λ t. tt), (no-form (bytes "ptr<") tt, tt)))),
+                  ),
+                ),
+              ),
+            ),
+          ),
+        ),
+      ),
+    )
 
     unnamed : trim s ≡ s → scalar-name s ≡ none
     unfolding scalar-name

@@ -18,6 +18,7 @@ use Rattle.meaning.specs.declared.Padding.{Padding}
 use Rattle.meaning.specs.declared.Record.{Record}
 use Rattle.meaning.specs.declared.Note.{Note}
 use Rattle.meaning.specs.declared.Reading.{Reading}
+use Rattle.meaning.specs.declared.Refusal.{Refusal}
 use Rattle.meaning.specs.declared.Refusal.the-variants.{Accepted, TooLong, NoType, NotStrict, TooMany}
 use Rattle.meaning.specs.Found.{Clause, filled, padded}
 use Rattle.meaning.specs.Ordinary.{refused}
@@ -296,24 +297,37 @@ module _ (s : Text) where
   pub self-led : (getD s 0 0 ≡ 33 → ⊥) → getD s 0 0 ≡ W.lead s
   self-led n = sym (rw (ne-eqb (getD s 0 0) 33 n))
 
-  module _ (k e : ℕ) (q : choose heads s ≡ valued s k e) where
-    pub worded : e ≤ length s → false ≡ W.hopeless s
+  module _ (n : W.no-word (choose heads s) ≡ true) where
+    pub viewish : W.view-led (W.lead s) ≡ true → false ≡ W.hopeless s
     unfolding W.hopeless
-    worded h = sym (rw (q, le-leb e (length s) h))
+    viewish v = sym (rw (n, v))
 
-    pub viewish : length s < e → W.view-led (W.lead s) ≡ true → false ≡ W.hopeless s
+    pub wordless : W.view-led (W.lead s) ≡ false → every W.quiet s ≡ W.hopeless s
     unfolding W.hopeless
-    viewish h v = sym (rw (q, lt-leb e (length s) h, v))
-
-    pub wordless : length s < e → W.view-led (W.lead s) ≡ false → every W.quiet s ≡ W.hopeless s
-    unfolding W.hopeless
-    wordless h v = sym (rw (q, lt-leb e (length s) h, v))
+    wordless v = sym (rw (n, v))
 
   pub no-type : W.hopeless s ≡ true → NoType ≡ W.missed s
   no-type e = sym (rw e)
 
   pub left-over : W.hopeless s ≡ false → NotStrict ≡ W.missed s
   left-over e = sym (rw e)
+
+  module _ (k e : ℕ) (q : choose heads s ≡ valued s k e) where
+    pub unread : length s < e → W.no-word (choose heads s) ≡ true
+    unread h = rw (q, lt-leb e (length s) h)
+
+    pub unbegun : length s < e → refused 8 (W.missed s) 0 ≡ W.whole s (loosely s)
+    unbegun h =
+        let z : valued s k e ≡ stuck (drop (e - (length s + 1)) s) = rw (lt-leb e (length s) h) in
+        sym (ap (W.whole s) (loosely-is s ∙ ap (after W.from-head) (q ∙ z)))
+
+    headed : e ≤ length s → W.hopeless s ≡ false
+    unfolding W.hopeless
+    headed h = rw (q, le-leb e (length s) h)
+
+    -- what has a first word is read otherwise
+    pub worded : e ≤ length s → refused 8 NotStrict 0 ≡ refused 8 (W.missed s) 0
+    worded h = ap (λ (v : Refusal). refused 8 v 0) (left-over (headed h))
 
 pub trim-short : (s : Text) → length s ≤ 1024 → {t : Text} → t ≡ trim s → length t ≤ 1024
 trim-short s h e = subst (λ (t : Text). length t ≤ 1024) (sym e) (let k = trim-within s in omega arith)

@@ -29,7 +29,10 @@ ghost use Rattle.lists.specs.Laid.{list64, list32};
 ghost use Rattle.meaning.specs.Found.{padded};
 ghost use Rattle.strict.specs.Cursor.{Told};
 ghost use Rattle.grammar.specs.Tests.{every};
-ghost use Rattle.strict.specs.Loose.{loosely, record-of, answered, quiet, bracketed, ended, lead, view-led, hopeless, missed, whole, skimmed};
+ghost use Rattle.strict.specs.Words.{choose};
+ghost use Rattle.strict.specs.Whole.{heads};
+ghost use Rattle.strict.specs.Loose.{loosely, record-of, answered, quiet, bracketed, ended};
+ghost use Rattle.strict.specs.Loose.{no-word, lead, view-led, hopeless, missed, whole, skimmed};
 ghost use Rattle.strict.specs.LooseParts as P;
 
 // A type that is no view; where `given` is false, DYNAMIC stands for each stride.
@@ -119,9 +122,11 @@ fn of_tensor(b: Body) -> Whole
     )
 }
 
-// The whole text by its first word. Its lists are laid into five blank ones.
+// The whole text by its first word, which has the number `k` and ends at `from`. Its lists are laid into five blank ones.
 fn loose_whole(
     s: &[u8],
+    from: usize,
+    k: usize,
     shape: &mut [i64],
     strides: &mut [i64],
     tile: &mut [i32],
@@ -134,26 +139,26 @@ fn loose_whole(
     requires { ⌜ now map ≡ padded 8 [] ⌝ }
     requires { ⌜ now walk ≡ padded 8 [] ⌝ }
     requires { ⌜ length (now s) ≤ 1024 ⌝ }
+    requires { ⌜ Told (now s) 0 (choose heads (now s)) k from ⌝ }
     ensures { λ r. ⌜ Told (now (s .entry)) 0 (loosely (now (s .entry))) (P.whole (now (shape .exit)) (now (strides .exit)) (now (tile .exit)) (now (map .exit)) (now (walk .exit)) r) (r .end) ⌝ }
 {
-    let k = read_head(s);
-    if k.word < 22 {
-        return listless(Kind::Scalar, k.word, false, k.end);
+    if k < 22 {
+        return listless(Kind::Scalar, k, false, from);
     }
-    if k.word < 24 {
-        return listless(Kind::Token, 0, false, k.end);
+    if k < 24 {
+        return listless(Kind::Token, 0, false, from);
     }
-    if k.word < 26 {
-        let c = loose_pointee(s, k.end, b">", b", #cuda_tile.ptr_attr<none>>");
+    if k < 26 {
+        let c = loose_pointee(s, from, b">", b", #cuda_tile.ptr_attr<none>>");
         return listless(Kind::Pointer, c.word, c.marked, c.end);
     }
-    if k.word < 28 {
-        return of_tile(loose_tile(s, k.end, shape));
+    if k < 28 {
+        return of_tile(loose_tile(s, from, shape));
     }
-    if k.word < 30 {
-        return of_tensor(loose_tensor(s, k.end, shape, strides));
+    if k < 30 {
+        return of_tensor(loose_tensor(s, from, shape, strides));
     }
-    loose_view(s, k.end, k.word, shape, strides, tile, map, walk)
+    loose_view(s, from, k, shape, strides, tile, map, walk)
 }
 
 // The strides, or DYNAMIC for each dimension.
@@ -371,23 +376,21 @@ fn view_led(c: u8) -> bool
     (c == 103) | (c == 112) | (c == 115)
 }
 
-// Whether no type begins as `s` does, and nothing in it can be a mark. What begins like a view is left to the reading as in `types.rs`.
+// Whether no type begins as `s` does, whose first word can't be read, and nothing in it can be a mark. What begins like a view is left to the
+// reading as in `types.rs`.
 fn hopeless(s: &[u8]) -> bool
+    requires { ⌜ no-word (choose heads (now s)) ≡ true ⌝ }
     ensures { λ r. ⌜ r ≡ hopeless (now (s .entry)) ⌝ }
 {
-    let t = &s[..]; // handed on as two words (decision 55)
-    let k = read_head(t);
-    if k.end <= t.len() {
+    if view_led(lead(s)) {
         return false;
     }
-    if view_led(lead(t)) {
-        return false;
-    }
-    quiet_from(t, 0)
+    quiet_from(s, 0)
 }
 
-// How a text is refused that isn't walked to its end.
+// How a text is refused whose first word can't be read.
 fn missed(s: &[u8]) -> Refusal
+    requires { ⌜ no-word (choose heads (now s)) ≡ true ⌝ }
     ensures { λ r. ⌜ r ≡ missed (now (s .entry)) ⌝ }
 {
     if hopeless(s) {
@@ -402,15 +405,28 @@ fn walked(s: &[u8]) -> Reading
     requires { ⌜ length (now s) ≤ 1024 ⌝ }
     ensures { λ r. ⌜ r ≡ whole (now (s .entry)) (loosely (now (s .entry))) ⌝ }
 {
+    let k = read_head(s);
+    if s.len() < k.end {
+        return refuse(missed(s), 0);
+    }
     let mut shape = [0i64; CAP];
     let mut strides = [0i64; CAP];
     let mut tile = [0i32; CAP];
     let mut map = [0i32; CAP];
     let mut walk = [0i32; CAP];
-    let w = loose_whole(s, &mut shape, &mut strides, &mut tile, &mut map, &mut walk);
+    let w = loose_whole(
+        s,
+        k.end,
+        k.word,
+        &mut shape,
+        &mut strides,
+        &mut tile,
+        &mut map,
+        &mut walk,
+    );
     let kind = w.kind;
     if !ended(s, w.end, kind) {
-        return refuse(missed(s), 0);
+        return refuse(Refusal::NotStrict, 0);
     }
     let m = strides_of(w, strides);
     let y = map_of(w, map);
