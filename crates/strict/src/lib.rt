@@ -11,6 +11,7 @@ mod middles;
 mod names;
 mod number;
 mod once;
+mod rest;
 mod view;
 mod whole;
 mod words;

@@ -9,7 +9,8 @@ use super::loose_inner::loose_tensor;
 use super::loose_inner::loose_tile;
 use super::loose_view::Whole;
 use super::loose_view::loose_view;
-use super::words::peek;
+use super::rest::ended;
+use super::rest::missed;
 use lists::List32;
 use lists::List64;
 use meaning::CAP;
@@ -23,16 +24,14 @@ ghost use mathlib.Core.Path.{_≡_};
 ghost use mathlib.Core.Bool.{true, false, _&&_};
 ghost use mathlib.Core.List.{[]};
 ghost use lib.Dec.{leb};
-ghost use lib.ListN.{length, drop};
+ghost use lib.ListN.{length};
 ghost use Prim.Native.Nat.{_≤_};
 ghost use Rattle.lists.specs.Laid.{list64, list32};
 ghost use Rattle.meaning.specs.Found.{padded};
 ghost use Rattle.strict.specs.Cursor.{Told};
-ghost use Rattle.grammar.specs.Tests.{every};
 ghost use Rattle.strict.specs.Words.{choose};
 ghost use Rattle.strict.specs.Whole.{heads};
-ghost use Rattle.strict.specs.Loose.{loosely, record-of, answered, quiet, bracketed, ended};
-ghost use Rattle.strict.specs.Loose.{no-word, lead, view-led, hopeless, missed, whole, skimmed};
+ghost use Rattle.strict.specs.Loose.{loosely, record-of, answered, whole, skimmed};
 ghost use Rattle.strict.specs.LooseParts as P;
 
 // A type that is no view; where `given` is false, DYNAMIC stands for each stride.
@@ -310,93 +309,6 @@ fn answer(
         place: 0,
         value,
         note,
-    }
-}
-
-// Whether all bytes from `at` on are quiet. There is no early end, so that many are looked at in one step.
-fn quiet_from(s: &[u8], at: usize) -> bool
-    ensures { λ r. ⌜ r ≡ every quiet (drop at (now (s .entry))) ⌝ }
-{
-    let mut i = at;
-    let mut all = true;
-    while i < s.len() {
-        let b = s[i];
-        all = all & (b < 128) & (b != 35);
-        i += 1;
-    }
-    all
-}
-
-// Whether a type is closed by a bracket.
-fn bracketed(k: Kind) -> bool
-    ensures { λ r. ⌜ r ≡ bracketed k ⌝ }
-{
-    match k {
-        Kind::Scalar => false,
-        Kind::Pointer => true,
-        Kind::Tile => true,
-        Kind::TensorView => true,
-        Kind::Partition => true,
-        Kind::GatherScatter => true,
-        Kind::Strided => true,
-        Kind::Token => false,
-    }
-}
-
-// Whether a walk that ended at `e` is the whole text's: nothing follows, or what follows is ignored.
-fn ended(s: &[u8], e: usize, k: Kind) -> bool
-    ensures { λ r. ⌜ r ≡ leb e (length (now (s .entry))) && ended k (drop e (now (s .entry))) ⌝ }
-{
-    if e == s.len() {
-        return true;
-    }
-    if s.len() < e {
-        return false;
-    }
-    if !bracketed(k) {
-        return false;
-    }
-    quiet_from(s, e)
-}
-
-// The first byte of a kind's name, if one stands there.
-fn lead(s: &[u8]) -> u8
-    ensures { λ r. ⌜ r ≡ lead (now (s .entry)) ⌝ }
-{
-    if peek(s, 0) == 33 {
-        return peek(s, 11);
-    }
-    peek(s, 0)
-}
-
-// Whether it is that of a view.
-fn view_led(c: u8) -> bool
-    ensures { λ r. ⌜ r ≡ view-led c ⌝ }
-{
-    (c == 103) | (c == 112) | (c == 115)
-}
-
-// Whether no type begins as `s` does, whose first word can't be read, and nothing in it can be a mark. What begins like a view is left to the
-// reading as in `types.rs`.
-fn hopeless(s: &[u8]) -> bool
-    requires { ⌜ no-word (choose heads (now s)) ≡ true ⌝ }
-    ensures { λ r. ⌜ r ≡ hopeless (now (s .entry)) ⌝ }
-{
-    if view_led(lead(s)) {
-        return false;
-    }
-    quiet_from(s, 0)
-}
-
-// How a text is refused whose first word can't be read.
-fn missed(s: &[u8]) -> Refusal
-    requires { ⌜ no-word (choose heads (now s)) ≡ true ⌝ }
-    ensures { λ r. ⌜ r ≡ missed (now (s .entry)) ⌝ }
-{
-    if hopeless(s) {
-        Refusal::NoType
-    } else {
-        Refusal::NotStrict
     }
 }
 

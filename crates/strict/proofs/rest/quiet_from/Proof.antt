@@ -7,8 +7,8 @@ use mathlib.Core.Path.{_≡_, sym, _∙_}
 use Prim.Native.Nat.{_-_}
 use lib.ListN.{length, drop}
 use borrow.Author.Needs.{needs}
-use Rattle.strict.proofs.once.quiet_from.Statement.{statement}
-use Rattle.strict.proofs.once.quiet_from.Tie as tie
+use Rattle.strict.proofs.rest.quiet_from.Statement.{statement}
+use Rattle.strict.proofs.rest.quiet_from.Tie as tie
 
 abbrev Inv-loop : tie.InvT-loop
 Inv-loop s at i₀ all₀ i all = every quiet (drop at s) ≡ all && every quiet (drop i s)

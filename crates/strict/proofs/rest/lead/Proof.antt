@@ -2,8 +2,8 @@
 use Rattle.strict.proofs.Skimming as L
 use mathlib.Core.Path.{sym, _∙_}
 use borrow.Author.Needs.{needs}
-use Rattle.strict.proofs.once.lead.Statement.{statement}
-use Rattle.strict.proofs.once.lead.Tie as tie
+use Rattle.strict.proofs.rest.lead.Statement.{statement}
+use Rattle.strict.proofs.rest.lead.Tie as tie
 
 pub lead-spec : {M : Type 1} → statement M
 lead-spec =

@@ -3,8 +3,8 @@ use Rattle.strict.proofs.Skimming as L
 use Rattle.strict.specs.Loose.{view-led}
 use mathlib.Core.Path.{sym, ap, _∙_}
 use borrow.Author.Needs.{needs}
-use Rattle.strict.proofs.once.hopeless.Statement.{statement}
-use Rattle.strict.proofs.once.hopeless.Tie as tie
+use Rattle.strict.proofs.rest.hopeless.Statement.{statement}
+use Rattle.strict.proofs.rest.hopeless.Tie as tie
 
 pub hopeless-spec : {M : Type 1} → statement M
 hopeless-spec =

@@ -8,8 +8,8 @@ use lib.ListN.{drop}
 use borrow.Author.Tests.{not-true, not-false}
 use borrow.Author.Needs.{needs}
 use native.Mathlib.Omega.{arith}
-use Rattle.strict.proofs.once.ended.Statement.{statement}
-use Rattle.strict.proofs.once.ended.Tie as tie
+use Rattle.strict.proofs.rest.ended.Statement.{statement}
+use Rattle.strict.proofs.rest.ended.Tie as tie
 
 pub ended-spec : {M : Type 1} → statement M
 ended-spec =

@@ -2,8 +2,8 @@
 use Rattle.strict.proofs.Skimming as L
 use mathlib.Core.Path.{sym, _∙_}
 use borrow.Author.Needs.{needs}
-use Rattle.strict.proofs.once.missed.Statement.{statement}
-use Rattle.strict.proofs.once.missed.Tie as tie
+use Rattle.strict.proofs.rest.missed.Statement.{statement}
+use Rattle.strict.proofs.rest.missed.Tie as tie
 
 pub missed-spec : {M : Type 1} → statement M
 missed-spec =
