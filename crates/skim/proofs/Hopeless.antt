@@ -1,6 +1,6 @@
 -- A text that no type begins like, and in which nothing can be a mark, is no type: whatever a type begins with is a first word that is read,
 -- or begins like a view. That each opening and each name is one is a computed test over the table of first words.
-use Prim.Native.Nat.{ℕ, suc}
+use Prim.Native.Nat.{ℕ}
 use mathlib.Core.Bool.{Bool, true, false, cond, not, _&&_, _||_}
 use mathlib.Core.List.{List, [], _∷_, _++_}
 use mathlib.Core.Option.{Option, none, some}
@@ -11,9 +11,9 @@ use Rattle.lexis.specs.Text.{Text, bytes, if_then_else_, same, begins, after, C
 use Rattle.scalars.specs.Names.{Name, names, named-in, scalar-name}
 use Rattle.meaning.specs.declared.Kind.the-variants as K
 use Rattle.meaning.specs.Parts.{each, content, bracketed, remove}
-use Rattle.meaning.specs.Found.{Found, plain, token, with-attribute}
+use Rattle.meaning.specs.Found.{plain, token, with-attribute}
 use Rattle.meaning.specs.Ordinary.{Form, forms, by-forms, unmarked, mark, passes, parse}
-use Rattle.grammar.specs.Tests.{every, and-left, and-right, and-in, T-not-eq}
+use Rattle.grammar.specs.Tests.{every, and-left, and-right, T-not-eq}
 use Rattle.grammar.specs.Piece.{Answer, got, stuck}
 use Rattle.grammar.specs.Table.{Entry, _↝_, rest-of, advance, or-done, done, settle, pick}
 use Rattle.lexis.proofs.Seeking.{turned}
