@@ -9,6 +9,7 @@ mod lengths;
 mod long;
 mod machine;
 mod marks;
+mod over;
 mod plot;
 mod refused;
 mod report;
@@ -77,11 +78,14 @@ bench: our readers, our writer and our totals of sheets, timed beside the origin
 one run
 
   bench [--quick] [--markdown FILE] [--svg FILE]
+  bench --over GROUP CALL ROUNDS
 
   --quick          fewer rounds: some seconds, with a wider spread
   --markdown FILE  puts the tables into FILE as well, between its lines
                    `<!-- bench: begin -->` and `<!-- bench: end -->`
   --svg FILE       writes the plot
+  --over ..        one CALL (theirs, ordinary, strict) over the texts of one group, so many times,
+                   with nothing timed, for what counts instructions; prints how many texts it has
 
 First every text is read once by each reader, and its answer is held to what its group says; then
 all groups are timed, and the tables printed. The texts are made from a fixed seed.
@@ -109,7 +113,10 @@ fn main() -> ExitCode {
     };
     let done = original::needed()
         .and_then(|()| ours::needed())
-        .and_then(|()| run::run(&wanted));
+        .and_then(|()| match &wanted.over {
+            Some(over) => over::run(over),
+            None => run::run(&wanted),
+        });
     match done {
         Ok(()) => ExitCode::SUCCESS,
         Err(why) => {
@@ -131,6 +138,10 @@ fn wanted(words: &[&str]) -> Result<run::Wanted, String> {
             "--quick" => wanted.quick = true,
             "--markdown" => wanted.markdown = file()?,
             "--svg" => wanted.svg = file()?,
+            "--over" => {
+                let mut word = || words.next().copied().unwrap_or_default();
+                wanted.over = Some(over::over(word(), word(), word())?);
+            }
             _ => return Err(format!("`{word}` isn't understood")),
         }
     }
@@ -145,7 +156,13 @@ mod tests {
     fn words_are_understood_or_refused() {
         let both = wanted(&["--svg", "a.svg", "--quick"]).unwrap();
         assert!(both.quick && both.svg.is_some() && both.markdown.is_none());
-        for wrong in [&["--svg"][..], &["--svg", "--quick"], &["quick"]] {
+        assert!(wanted(&["--over", "e3", "ordinary", "1"]).is_ok_and(|it| it.over.is_some()));
+        for wrong in [
+            &["--svg"][..],
+            &["--svg", "--quick"],
+            &["quick"],
+            &["--over", "e3"],
+        ] {
             assert!(wanted(wrong).is_err(), "{wrong:?}");
         }
     }

@@ -4,6 +4,7 @@ use crate::clock::{self, Call, SHEETS, TEXTS};
 use crate::dice::Dice;
 use crate::groups::{self, Group};
 use crate::lengths::{self, LENGTHS, WAYS};
+use crate::over::Over;
 use crate::report::{self, Measured};
 use crate::stats::least;
 use crate::table::Table;
@@ -18,6 +19,7 @@ pub struct Wanted {
     pub quick: bool,
     pub markdown: Option<PathBuf>,
     pub svg: Option<PathBuf>,
+    pub over: Option<Over>,
 }
 
 const ROUNDS: usize = 1001;
