@@ -1,5 +1,5 @@
 /* Counts the instructions that a program executes under QEMU's user emulation: a plug-in for its -plugin option. What it
-   calls of QEMU is declared here, since Debian has no header for it; version 1 of the interface. */
+   calls of QEMU is declared here, so that no header of QEMU's is needed; version 1 of the interface. */
 #include <inttypes.h>
 #include <stddef.h>
 #include <stdio.h>

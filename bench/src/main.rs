@@ -139,8 +139,9 @@ fn wanted(words: &[&str]) -> Result<run::Wanted, String> {
             "--markdown" => wanted.markdown = file()?,
             "--svg" => wanted.svg = file()?,
             "--over" => {
-                let mut word = || words.next().copied().unwrap_or_default();
-                wanted.over = Some(over::over(word(), word(), word())?);
+                let needs = || "`--over` needs a group, a call and a number".to_string();
+                let mut next = || words.next().copied().ok_or_else(needs);
+                wanted.over = Some(over::over(next()?, next()?, next()?)?);
             }
             _ => return Err(format!("`{word}` isn't understood")),
         }

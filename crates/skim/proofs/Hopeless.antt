@@ -1,12 +1,13 @@
 -- A text that no type begins like, and in which nothing can be a mark, is no type: whatever a type begins with is a first word that is read,
 -- or begins like a view. That each opening and each name is one is a computed test over the table of first words.
-use Prim.Native.Nat.{ℕ}
+use Prim.Native.Nat.{ℕ, _≤_}
+use native.Mathlib.Omega.{arith}
 use mathlib.Core.Bool.{Bool, true, false, cond, not, _&&_, _||_}
 use mathlib.Core.List.{List, [], _∷_, _++_}
 use mathlib.Core.Option.{Option, none, some}
 use mathlib.Core.Path.{_≡_, refl, subst, sym, ap, _∙_}
-use lib.Dec.{T, eqb, eqb→eq}
-use lib.ListN.{length}
+use lib.Dec.{T, eqb, leb, eqb→eq, leb→le}
+use lib.ListN.{length, getD, List·getD-append}
 use Rattle.lexis.specs.Text.{Text, bytes, if_then_else_, same, begins, after, Cut, cut, nowhere, at, white, less-leading, less-trailing, unless-last, trim}
 use Rattle.scalars.specs.Names.{Name, names, named-in, scalar-name}
 use Rattle.meaning.specs.declared.Kind.the-variants as K
@@ -18,6 +19,7 @@ use Rattle.grammar.specs.Piece.{Answer, got, stuck}
 use Rattle.grammar.specs.Table.{Entry, _↝_, rest-of, advance, or-done, done, settle, pick}
 use Rattle.lexis.proofs.Seeking.{turned}
 use Rattle.accord.proofs.Shape.{run, all, absent}
+use Rattle.accord.proofs.Num.{or-cases}
 use Rattle.accord.proofs.Hole.{back-twice}
 use Rattle.strict.specs.Words.{choose, entries}
 use Rattle.strict.specs.Whole.{heads}
@@ -149,14 +151,23 @@ unopened p s e = ap (λ (k : Bool). if k then content (after p s) else none) e
 abbrev first-word : Name → Bool
 first-word m = reached (bytes (m .spelling)) (entries heads)
 
-abbrev Shut : List Form → Text → Type 0
-Shut [] s = Unit {0}
-Shut (f ∷ fs) s = (bracketed (bytes (f .opens)) s ≡ none) × Shut fs s
+longer-led : (p t : Text) → 12 ≤ length p → lead (p ++ t) ≡ lead p
+longer-led p t h =
+    let first : getD (p ++ t) 0 0 ≡ getD p 0 0 = List·getD-append p t 0 0 (omega arith) in
+    let behind : getD (p ++ t) 11 0 ≡ getD p 11 0 = List·getD-append p t 0 11 (omega arith) in
+    λ i. if eqb (first i) 33 then behind i else first i
 
--- where no form applies, the text may be a name
-shut : (fs : List Form) (s : Text) → Shut fs s → by-forms fs s ≡ each (plain K.Scalar) (scalar-name s)
-shut [] s h = refl
-shut (f ∷ fs) s h = ap (λ (o : Option Text). elim o [ some t ↦ f .content t | none ↦ by-forms fs s ]) (h .0) ∙ shut fs s (h .1)
+-- what a view's form opens with
+abbrev view-opening : Text → Bool
+view-opening p = leb 12 (length p) && view-led (lead p)
+
+-- a first word that is read, or a view's
+abbrev opening : Form → Bool
+opening f = reached (bytes (f .opens)) (entries heads) || view-opening (bytes (f .opens))
+
+all-openings : T (every opening forms)
+unfolding forms
+all-openings = tt
 
 module _ (s : Text) (n : T (no-word (choose heads s))) where
   -- a word that is read
@@ -175,39 +186,19 @@ module _ (s : Text) (n : T (no-word (choose heads s))) where
 
   -- what begins like a view
   module _ (v : T (not (view-led (lead s)))) where
-    no-view : (p : Text) → ((t : Text) → T (view-led (lead (p ++ t)))) → bracketed p s ≡ none
-    no-view p f = unopened p s (no-front (λ t. T (view-led (lead t))) p s f (λ k. subst T (T-not-eq (view-led (lead s)) v) k))
+    no-view : (p : Text) → T (view-opening p) → begins p s ≡ false
+    no-view p o = no-front (λ t. T (view-led (lead t))) p s
+        (λ t. subst (λ (c : ℕ). T (view-led c)) (sym (longer-led p t (leb→le 12 (length p) (and-left (leb 12 (length p)) (view-led (lead p)) o)))) (and-right (leb 12 (length p)) (view-led (lead p)) o))
+        (λ k. subst T (T-not-eq (view-led (lead s)) v) k)
 
-    no-form : (p : Text) → T (reached p (entries heads)) → bracketed p s ≡ none
-    no-form p r = unopened p s (no-reached p r)
+    no-opening : (f : Form) → T (opening f) → bracketed (bytes (f .opens)) s ≡ none
+    no-opening f o = let p = bytes (f .opens) in unopened p s (or-cases (reached p (entries heads)) (view-opening p) (no-reached p) (no-view p) o)
 
-    all-shut : Shut forms s
-    unfolding forms
-    all-shut = (
-      no-form (bytes "!cuda_tile.tile<") tt,
-      (
-        no-form (bytes "!cuda_tile.tensor_view<") tt,
-        (
-          no-view (bytes "!cuda_tile.partition_view<") (λ t. tt),
-          (
-            no-view (bytes "!cuda_tile.gather_scatter_view<") (λ t. tt),
-            (
-              no-view (bytes "!cuda_tile.strided_view<") (λ t. tt),
-              (
-                no-form (bytes "!cuda_tile.ptr<") tt,
-                (
-                  no-form (bytes "tile<") tt,
-                  (
-                    no-form (bytes "tensor_view<") tt,
-                    (no-view (bytes "partition_view<") (λ t. tt), (no-view (bytes "gather_scatter_view<") (λ t. tt), (no-view (bytes "strided_view<") (λ t. tt), (no-form (bytes "ptr<") tt, tt)))),
-                  ),
-                ),
-              ),
-            ),
-          ),
-        ),
-      ),
-    )
+    -- no form applies, so that the text may be a name
+    shut : (fs : List Form) → T (every opening fs) → by-forms fs s ≡ each (plain K.Scalar) (scalar-name s)
+    shut [] h = refl
+    shut (f ∷ fs) h = ap (λ (o : Option Text). elim o [ some t ↦ f .content t | none ↦ by-forms fs s ]) (no-opening f (and-left (opening f) (every opening fs) h))
+        ∙ shut fs (and-right (opening f) (every opening fs) h)
 
     unnamed : trim s ≡ s → scalar-name s ≡ none
     unfolding scalar-name
@@ -217,7 +208,7 @@ module _ (s : Text) (n : T (no-word (choose heads s))) where
     unfolding unmarked
     formless e =
         ap (λ (k : Bool). if k then some token else by-forms forms s) (λ i. no-token (bytes "!cuda_tile.token") tt i || no-token (bytes "token") tt i)
-        ∙ shut forms s all-shut ∙ ap (each (plain K.Scalar)) (unnamed e)
+        ∙ shut forms all-openings ∙ ap (each (plain K.Scalar)) (unnamed e)
 
 -- ── the text, trimmed ──
 kept-front : (c : ℕ) (u : Text) → white c ≡ false → less-leading white (unless-last white c u) ≡ unless-last white c u
