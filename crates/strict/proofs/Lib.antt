@@ -17,8 +17,3 @@ pub mod BridgeViews
 pub mod BridgeWhole
 pub mod Judging
 pub mod Unique
-pub mod Loosely
-pub mod LooseViewing
-pub mod LooseInsides
-pub mod Skimming
-pub mod Bounding

@@ -1,13 +1,8 @@
 -- Each public function's contract leaves one answer: two answers that meet the generated reading of it, for the same text, are the same.
-use mathlib.Core.Path.{sym, _∙_}
 use denote.Ref.{now}
 use Rattle.lexis.proofs.Unique.{One}
 use Rattle.grammar.proofs.Answer.{one-answer}
 use Rattle.strict.proofs.answer.parse_strict.Reads as parse-strict
-use Rattle.strict.proofs.once.skim.Reads as skim
 
 pub parse-strict-one : One parse-strict.Post
 parse-strict-one κs a x y s t p q = one-answer 8 1024 (now (a .0)) x y p q
-
-pub skim-one : One skim.Post
-skim-one κs a x y s t p q = p ∙ sym q

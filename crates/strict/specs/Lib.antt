@@ -1,4 +1,4 @@
--- What the contracts of the strict reader's parts, and of the walk over loose texts, say: values with places of the text, words of tables, lists.
+-- What the contracts of the strict reader's parts say: values with places of the text, words of tables, lists.
 pub mod Cursor
 pub mod Words
 pub mod Rows
@@ -7,5 +7,3 @@ pub mod Inner
 pub mod Views
 pub mod Whole
 pub mod Plain
-pub mod Loose
-pub mod LooseParts

@@ -1,0 +1,69 @@
+// Tiles (01, module 4).
+use super::made::Parsed;
+use super::made::nothing;
+use super::made::simple;
+use super::repeats::trim_end_repeats;
+use lexis::Found;
+use lists::List64;
+use meaning::Kind;
+use scalars::Named;
+ghost use Prim.Native.Nat.{_≤_};
+ghost use mathlib.Core.Path.{_≡_};
+ghost use mathlib.Core.Bool.{true, false};
+ghost use mathlib.Core.Option.{Option};
+ghost use lib.ListN.{length};
+ghost use Rattle.lexis.specs.Text.{bytes, trim, cut};
+ghost use Rattle.meaning.specs.Parts.{each, less-repeats};
+ghost use Rattle.meaning.specs.Tile.{dimensions, before-pointer, pointee, tile-of, tile-by, tile};
+ghost use Rattle.lexis.specs.Text.{Cut, nowhere, at};
+ghost use Rattle.lists.specs.Laid.{list64};
+ghost use Rattle.port.specs.Shown.{said, shown, Reads};
+
+// `[shape x]elem` where shape is `dim[xdim]*` and elem is a scalar or a pointer.
+pub(crate) fn parse_tile(inner: &[u8]) -> Parsed
+    requires { ⌜ length (now inner) ≤ 1024 ⌝ }
+    ensures { λ r. ⌜ said r ≡ each (shown 8) (tile (now (inner .entry))) ⌝ }
+{
+    match lexis::find(inner, b"ptr<") {
+        Found::At(i) => pointer_tile(&inner[..i], &inner[i + 4..]),
+        Found::Nowhere => scalar_tile(inner),
+    }
+}
+
+fn pointer_tile(before: &[u8], after: &[u8]) -> Parsed
+    requires { ⌜ length (now before) ≤ 1024 ⌝ }
+    ensures { λ r. ⌜ said r ≡ each (shown 8) (each (tile-of true (dimensions (before-pointer (less-repeats (bytes "!cuda_tile.") (trim (now (before .entry))))))) (pointee (cut (bytes ">") (now (after .entry))))) ⌝ }
+{
+    match lexis::find(after, b">") {
+        Found::At(n) => match scalars::parse_scalar(&after[..n]) {
+            Named::Is(e) => simple(Kind::Tile, e, true, pointer_shape(before), lists::none64()),
+            Named::Unknown => nothing(),
+        },
+        Found::Nowhere => nothing(),
+    }
+}
+
+// The dimensions before a pointer: none if nothing is left there.
+fn pointer_shape(before: &[u8]) -> List64
+    requires { ⌜ length (now before) ≤ 1024 ⌝ }
+    ensures { λ r. ⌜ Reads (list64 r) (dimensions (before-pointer (less-repeats (bytes "!cuda_tile.") (trim (now (before .entry)))))) ⌝ }
+{
+    let b = trim_end_repeats(lexis::trim(before), b"!cuda_tile.");
+    if b.len() == 0 {
+        return lists::none64();
+    }
+    lists::parse_dims(lexis::trim_end_matches(b, 120), 120)
+}
+
+fn scalar_tile(inner: &[u8]) -> Parsed
+    requires { ⌜ length (now inner) ≤ 1024 ⌝ }
+    ensures { λ r. ⌜ said r ≡ each (shown 8) (tile-by (now (inner .entry)) nowhere) ⌝ }
+{
+    let f = lists::parse_front(inner);
+    let last = f.last;
+    let dims = f.dims;
+    match scalars::parse_scalar(&inner[last..]) {
+        Named::Is(e) => simple(Kind::Tile, e, false, dims, lists::none64()),
+        Named::Unknown => nothing(),
+    }
+}
