@@ -15,7 +15,7 @@ use Rattle.meaning.specs.declared.Reading.{Reading}
 use Rattle.meaning.specs.declared.Refusal.the-variants.{TooLong}
 use Rattle.accord.proofs.Demands.{strict-ordinary}
 
-module _ (s : Text) {r : Reading} (e : Strictly 8 1024 s r) where
+module _ (s : Text) (r : Reading) (e : Strictly 8 1024 s r) where
   pub settled : (number (r .refusal) ≡ 5 → ⊥) → r ≡ ordinary 8 1024 s
   settled n = sym (strict-ordinary 8 1024 s r e (λ k. n (ap number k)))
 

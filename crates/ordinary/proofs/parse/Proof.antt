@@ -11,6 +11,6 @@ parse-spec =
     (tie.spec
     (λ c κs. search needs)
     (λ c κs. search needs)
-    (λ c. let p = c .before .before in L.settled (p .before .before .args .text .now) (p .parse-strict .ensures) (λ e. c .if1 .taken (c .before .number .ensures ∙ e)))
+    (λ c. let p = c .before .before in L.settled (p .before .before .args .text .now) (p .parse-strict .result) (p .parse-strict .ensures) (λ e. c .if1 .taken (c .before .number .ensures ∙ e)))
     (λ c κs. search needs)
-    (λ c. let p = c .before .before .before in c .parse .ensures ∙ L.left-open (p .before .before .args .text .now) (p .parse-strict .ensures) (sym (c .before .before .number .ensures) ∙ c .before .if1 .left)))
+    (λ c. let p = c .before .before .before in c .parse .ensures ∙ L.left-open (p .before .before .args .text .now) (p .parse-strict .result) (p .parse-strict .ensures) (sym (c .before .before .number .ensures) ∙ c .before .if1 .left)))
