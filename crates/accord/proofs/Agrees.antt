@@ -21,7 +21,7 @@ use Rattle.meaning.specs.Strict as Form
 use Rattle.meaning.specs.Strict.{_⊕_, cuda, values, scalarOf, entriesOf, Form, spell}
 use Rattle.meaning.specs.Meant.{Any, any, eachOf, viewOk, ok, mean, stridesOf, padsOf}
 use Rattle.meaning.specs.Parts.{each}
-use Rattle.meaning.specs.Found.{value, Clause, stands, unused, Found, unreadable, lacking, fallen, counts, made, plain, token, with-attribute}
+use Rattle.meaning.specs.Found.{Entry, Clause, stands, unused, Found, unreadable, lacking, fallen, counts, unnoted, made, plain, token, with-attribute}
 use Rattle.meaning.specs.Found as F
 use Rattle.meaning.specs.Tile.{tile-of, tensor-found}
 use Rattle.meaning.specs.Views as W
@@ -51,7 +51,7 @@ shown t = record {
 
 -- a type with nothing defaulted
 abbrev pub sure : Any → Shown
-sure a = record { type = a; note = record { a = 0; b = 0; c = 0; d = 0 } }
+sure a = record { type = a; note = unnoted }
 
 -- a clause that holds l, and adds to no count
 record Clean (c : Clause) (l : List ℤ) : Type 0 where
@@ -62,7 +62,7 @@ record Clean (c : Clause) (l : List ℤ) : Type 0 where
 clean : (l : List ℤ) → Clean (stands (exact l)) l
 clean l = record { holds = by l; readable = fine l; whole = refl }
   where
-    by : (l : List ℤ) → map value (exact l) ≡ l
+    by : (l : List ℤ) → map (λ (e : Entry). e .value) (exact l) ≡ l
     by [] = refl
     by (z ∷ l) = ap (λ (k : List ℤ). z ∷ k) (by l)
 

@@ -12,7 +12,7 @@ use Rattle.meaning.specs.Decimal.{digits, decimal, Dim, dynamic, known, dim, si
 use Rattle.meaning.specs.Strict.{may, comma, Next, Commas, rest, commas, values, xrest, Entries, byX, byComma, entries, entriesOf}
 use Rattle.meaning.specs.Meant.{eachOf}
 use Rattle.meaning.specs.Parts.{last, front}
-use Rattle.meaning.specs.Found.{Entry, read}
+use Rattle.meaning.specs.Found.{Entry, as-read}
 use Rattle.meaning.specs.Tile.{DYNAMIC, read-or, dimension}
 use Rattle.meaning.specs.Views.{small, tile-entries}
 use Rattle.grammar.specs.Tests.{every, and-left, and-right, is-true}
@@ -57,7 +57,7 @@ module _ (C : ℕ → Bool) (x : ℕ) (n : T (not (C x))) where
 
 -- ── entries ──
 abbrev pub exact : List ℤ → List Entry
-exact l = map read l
+exact l = map as-read l
 
 pub dim-figure : (d : Dim) → T (every figure (dim d))
 dim-figure dynamic = tt
@@ -83,31 +83,31 @@ in32-ranged : (z : ℤ) → T (in32 z) → T (ranged 32 z)
 in32-ranged (pos n) h = le→leb n (2 ^ 31 - 1) (let q = ltb→lt n (2 ^ 31) h in omega arith)
 in32-ranged (negsuc n) h = le→leb (suc n) (2 ^ 31) (let q = ltb→lt n (2 ^ 31) h in omega arith)
 
-pub dimension-dim : (d : Dim) → T (in64 d) → dimension (dim d) ≡ read (size d)
+pub dimension-dim : (d : Dim) → T (in64 d) → dimension (dim d) ≡ as-read (size d)
 unfolding dimension DYNAMIC
 dimension-dim dynamic h = refl
 dimension-dim (known z) h =
-    ap (λ (t : List ℕ). if same t (bytes "?") then read DYNAMIC else read-or DYNAMIC (numeral 64 t)) (trim-none (decimal z) (decimal-visible z))
-    ∙ ap (λ (k : Bool). if k then read DYNAMIC else read-or DYNAMIC (numeral 64 (decimal z))) (same-lacks sd 63 tt (decimal z) (decimal-sd z))
+    ap (λ (t : List ℕ). if same t (bytes "?") then as-read DYNAMIC else read-or DYNAMIC (numeral 64 t)) (trim-none (decimal z) (decimal-visible z))
+    ∙ ap (λ (k : Bool). if k then as-read DYNAMIC else read-or DYNAMIC (numeral 64 (decimal z))) (same-lacks sd 63 tt (decimal z) (decimal-sd z))
     ∙ ap (read-or DYNAMIC) (numeral-decimal 64 z (in64-ranged z h))
 
-pub small-decimal : (d z : ℤ) → T (in32 z) → small d (decimal z) ≡ read z
+pub small-decimal : (d z : ℤ) → T (in32 z) → small d (decimal z) ≡ as-read z
 unfolding small
 small-decimal d z h =
     ap (λ (t : List ℕ). read-or d (numeral 32 t)) (trim-none (decimal z) (decimal-visible z)) ∙ ap (read-or d) (numeral-decimal 32 z (in32-ranged z h))
 
-pub dimension-gap : (s : Bool) (d : Dim) → T (in64 d) → dimension (may s (bytes " ") ++ dim d) ≡ read (size d)
+pub dimension-gap : (s : Bool) (d : Dim) → T (in64 d) → dimension (may s (bytes " ") ++ dim d) ≡ as-read (size d)
 unfolding dimension
 dimension-gap true d h = dimension-dim d h
 dimension-gap false d h = dimension-dim d h
 
-pub small-gap : (d : ℤ) (s : Bool) (z : ℤ) → T (in32 z) → small d (may s (bytes " ") ++ decimal z) ≡ read z
+pub small-gap : (d : ℤ) (s : Bool) (z : ℤ) → T (in32 z) → small d (may s (bytes " ") ++ decimal z) ≡ as-read z
 unfolding small
 small-gap d true z h = small-decimal d z h
 small-gap d false z h = small-decimal d z h
 
 module _ {A : Type 0} (r : List ℕ → Entry) (t : A → List ℕ) (g : A → ℤ) (k : A → Bool) where
-  pub settled : ((a : A) → T (k a) → r (t a) ≡ read (g a)) → (xs : List A) → T (eachOf k xs) → map r (map t xs) ≡ exact (map g xs)
+  pub settled : ((a : A) → T (k a) → r (t a) ≡ as-read (g a)) → (xs : List A) → T (eachOf k xs) → map r (map t xs) ≡ exact (map g xs)
   settled f [] h = refl
   settled f (a ∷ xs) h = λ i. f a (and-left (k a) (eachOf k xs) h) i ∷ settled f xs (and-right (k a) (eachOf k xs) h) i
 
@@ -123,7 +123,7 @@ gap-class true t h = every-mono figure gapped figure-gapped t h
 gap-class false t h = every-mono figure gapped figure-gapped t h
 
 module _ {A : Type 0} (r : List ℕ → Entry) (f : A → List ℕ) (g : A → ℤ) (k : A → Bool) (cl : (a : A) → T (every figure (f a)))
-    (rd : (s : Bool) (a : A) → T (k a) → r (may s (bytes " ") ++ f a) ≡ read (g a)) where
+    (rd : (s : Bool) (a : A) → T (k a) → r (may s (bytes " ") ++ f a) ≡ as-read (g a)) where
   rest-read : (ns : List (Next A)) (u : List ℕ) (v : ℤ) → T (every gapped u) → r u ≡ read v → T (eachOf k (map (λ n. n .entry) ns)) →
       map r (split 44 (u ++ rest f ns)) ≡ exact (v ∷ map g (map (λ n. n .entry) ns))
   rest-read [] u v h e o =
@@ -135,7 +135,7 @@ module _ {A : Type 0} (r : List ℕ → Entry) (f : A → List ℕ) (g : A → �
       ap (map r) (split-at gapped 44 tt u (may (n .space) (bytes " ") ++ (f (n .entry) ++ rest f ns)) h)
       ∙ ap (λ (o : Entry). o ∷ map r (split 44 (may (n .space) (bytes " ") ++ (f (n .entry) ++ rest f ns)))) e
       ∙ ap (λ (t : List ℕ). read v ∷ map r (split 44 t)) (sym (append-assoc (may (n .space) (bytes " ")) (f (n .entry)) (rest f ns)))
-      ∙ ap (λ (l : List Entry). read v ∷ l) ih
+      ∙ ap (λ (l : List Entry). as-read v ∷ l) ih
 
   pub commas-read : (c : Commas A) → T (eachOf k (values c)) → map r (split 44 (commas f c)) ≡ exact (map g (values c))
   commas-read c o = rest-read (c .tail) (f (c .head)) (g (c .head)) (every-mono figure gapped figure-gapped (f (c .head)) (cl (c .head)))
