@@ -1,6 +1,7 @@
 -- On the text of every well-formed strict form the ordinary reading finds its meaning, and every count is zero: the form is a
 -- skeleton, and `Exact` reads its numerals back.
 use Prim.Native.Nat.{ℕ, _+_}
+use native.Mathlib.Omega.{arith}
 use mathlib.Core.Bool.{Bool, true, false, _&&_, not}
 use mathlib.Core.List.{List, [], _∷_, map}
 use mathlib.Core.Option.{Option, some}
@@ -68,7 +69,7 @@ clean l = record { holds = by l; readable = fine l; whole = refl }
 
     fine : (l : List ℤ) → fallen (exact l) ≡ 0
     fine [] = refl
-    fine (z ∷ l) = fine l
+    fine (z ∷ l) = let h : fallen (exact l) ≡ 0 = fine l in omega arith
 
 clean-strides : (st : Form.Strides) → Clean (strides-found st) (stridesOf st)
 clean-strides Form.Strides.absent = record { holds = refl; readable = refl; whole = refl }

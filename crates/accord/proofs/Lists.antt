@@ -124,7 +124,7 @@ gap-class false t h = every-mono figure gapped figure-gapped t h
 
 module _ {A : Type 0} (r : List ℕ → Entry) (f : A → List ℕ) (g : A → ℤ) (k : A → Bool) (cl : (a : A) → T (every figure (f a)))
     (rd : (s : Bool) (a : A) → T (k a) → r (may s (bytes " ") ++ f a) ≡ as-read (g a)) where
-  rest-read : (ns : List (Next A)) (u : List ℕ) (v : ℤ) → T (every gapped u) → r u ≡ read v → T (eachOf k (map (λ n. n .entry) ns)) →
+  rest-read : (ns : List (Next A)) (u : List ℕ) (v : ℤ) → T (every gapped u) → r u ≡ as-read v → T (eachOf k (map (λ n. n .entry) ns)) →
       map r (split 44 (u ++ rest f ns)) ≡ exact (v ∷ map g (map (λ n. n .entry) ns))
   rest-read [] u v h e o =
       ap (λ (t : List ℕ). map r (split 44 t)) (append-nil u) ∙ ap (map r) (split-none gapped 44 tt u h) ∙ ap (λ (o : Entry). o ∷ []) e
@@ -134,7 +134,7 @@ module _ {A : Type 0} (r : List ℕ → Entry) (f : A → List ℕ) (g : A → �
       (rd (n .space) (n .entry) (and-left (k (n .entry)) _ o)) (and-right (k (n .entry)) _ o) in
       ap (map r) (split-at gapped 44 tt u (may (n .space) (bytes " ") ++ (f (n .entry) ++ rest f ns)) h)
       ∙ ap (λ (o : Entry). o ∷ map r (split 44 (may (n .space) (bytes " ") ++ (f (n .entry) ++ rest f ns)))) e
-      ∙ ap (λ (t : List ℕ). read v ∷ map r (split 44 t)) (sym (append-assoc (may (n .space) (bytes " ")) (f (n .entry)) (rest f ns)))
+      ∙ ap (λ (t : List ℕ). as-read v ∷ map r (split 44 t)) (sym (append-assoc (may (n .space) (bytes " ")) (f (n .entry)) (rest f ns)))
       ∙ ap (λ (l : List Entry). as-read v ∷ l) ih
 
   pub commas-read : (c : Commas A) → T (eachOf k (values c)) → map r (split 44 (commas f c)) ≡ exact (map g (values c))
