@@ -5,7 +5,7 @@ use native.Mathlib.Omega.{arith}
 use mathlib.Core.Bool.{Bool, true, false, _||_, _&&_, not}
 use mathlib.Core.List.{List, [], _∷_}
 use mathlib.Core.Option.{none, some}
-use mathlib.Core.Path.{_≡_, refl, sym, ap, _∙_}
+use mathlib.Core.Path.{_≡_, refl, sym, ap, subst, _∙_}
 use lib.Dec.{eqb}
 use lib.IntN.{ℤ, pos}
 use lib.ListN.{length, take, drop, length-take, length-drop}
@@ -13,12 +13,13 @@ use lib.Seq.{drop-drop, length-take-le}
 use Rattle.lexis.specs.Text.{Text, bytes, if_then_else_, split, Cut, nowhere, at, cut, place, occurs, until}
 use Rattle.lexis.proofs.Lists.{rest}
 use Rattle.lexis.proofs.Seeking.{turned, cut-at, cut-within, cut-nowhere, until-take, until-within}
-use Rattle.meaning.specs.Found.{Clause, stands, filled}
+use Rattle.meaning.specs.Found.{Clause, stands, filled, values}
 use Rattle.meaning.specs.Views as W
 use Rattle.meaning.specs.declared.Padding.{Padding}
 use Rattle.meaning.specs.declared.Padding.the-variants.{Absent, Zero, NegZero, Nan, PosInf, NegInf}
 use Rattle.lists.specs.Laid.{Laid, laid, smalls}
-use Rattle.port.specs.Carried.{listing, List-is, list-laid}
+use Rattle.port.specs.Carried.{fell, listing, List-is, list-laid}
+use Rattle.port.proofs.Making.{sound-list}
 use Rattle.port.specs.declared.views.Closed.{Closed}
 use Rattle.port.specs.declared.views.Closed.the-variants as C
 
@@ -135,7 +136,18 @@ module _ {l : Laid} (s : Text) where
   pub sparse-absent : place (cut (bytes "sparse_dim=") s) ≡ none → l ≡ laid 8 (filled (pos 0 ∷ [])) → l ≡ laid 8 (W.sparse-by (cut (bytes "sparse_dim=") s))
   sparse-absent e h = h ∙ sym (ap (λ (c : Cut). laid 8 (W.sparse-by c)) (cut-nowhere (bytes "sparse_dim=") s e))
 
+-- there is one
+pub one-sparse : (c : Cut) → length (values (W.sparse-by c)) ≤ 1
+one-sparse nowhere = omega arith
+one-sparse (at u t) = omega arith
+
 -- ── a list, or what fills in for it ──
+
+-- what fills in has no entry that fell back; what is laid has no more than there are
+pub sound-or : {l : Laid} (own : Laid) (q : W.Listed) → fell own ≤ own .row .len → l ≡ list-laid own q → fell l ≤ l .row .len
+sound-or own W.absent h e = subst (λ (m : Laid). fell m ≤ m .row .len) (sym e) h
+sound-or own W.unclosed h e = subst (λ (m : Laid). fell m ≤ m .row .len) (sym e) h
+sound-or own (W.listed t) h e = sound-list (W.entries t) e
 
 -- what is said of an answer, of the answer that it was seen to be
 module _ {s : Text} {q r : Closed} {l : W.Listed} (g : List-is s q l) (e : q ≡ r) where

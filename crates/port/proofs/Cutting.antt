@@ -27,7 +27,8 @@ use Rattle.lists.specs.declared.list.List64.{List64}
 use Rattle.lists.specs.Laid.{Laid, laid, list64, Fronted}
 use Rattle.port.specs.declared.tensor_view.Tensor.{Tensor}
 use Rattle.port.specs.Carried as C
-use Rattle.port.specs.Carried.{carried, tensored, Tensor-is}
+use Rattle.port.specs.Carried.{carried, fell, Tensored, tensored, Tensor-is}
+use Rattle.port.proofs.Making.{sound-list}
 use Rattle.port.proofs.Building.{bare, tensor-is, has, lacks}
 
 -- ── a cut, by the place that the code found ──
@@ -112,3 +113,8 @@ module _ (s : Text) (t : Tensor) (h : Tensor-is t (tensor s)) where
   view-some e =
       let v = has (tensored 8) (C.tensor-parts t) (tensor s) (h .is) e in
       ap some (tensor-is (C.tensor-parts t) (v .value) (v .same)) ∙ sym (ap (λ (o : Option T.Tensor). each (carried 8) (each tensor-found o)) (v .is))
+
+  pub view-sound : t .found ≡ true → (fell (list64 (t .shape)) ≤ t .shape .row .len) × (fell (list64 (t .strides)) ≤ t .strides .row .len)
+  view-sound e =
+      let v = has (tensored 8) (C.tensor-parts t) (tensor s) (h .is) e in
+      (sound-list (v .value .shape) (ap (λ (x : Tensored). x .shape) (v .same)), sound-list (v .value .strides) (ap (λ (x : Tensored). x .strides) (v .same)))

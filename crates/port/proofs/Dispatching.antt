@@ -15,7 +15,8 @@ use Rattle.meaning.specs.Found.{Found, plain, token}
 use Rattle.meaning.specs.Parts.{each, bracketed}
 use Rattle.meaning.specs.Ordinary.{pointer, Form, by-forms, forms, unmarked}
 use Rattle.meaning.specs.declared.Kind.the-variants as K
-use Rattle.port.specs.Carried.{Carried, carried, Told}
+use Rattle.meaning.specs.declared.Reading.{Reading}
+use Rattle.port.specs.Carried.{carried, answered, Told}
 use Rattle.port.specs.Forms.{shorthand, unprefixed, bare, first-of}
 use Rattle.port.specs.declared.brackets.Applied.{Applied}
 use Rattle.port.proofs.Bracketing.{bracketed-none}
@@ -23,13 +24,13 @@ use Rattle.lexis.proofs.Seeking.{turned}
 
 -- ── a name ──
 
-module _ {x : Option Carried} {o : Option Scalar} (s : Text) (g : scalar-name s ≡ o) where
-  pub bare-named : x ≡ each (carried 8) (each (plain K.Scalar) o) → x ≡ each (carried 8) (each (plain K.Scalar) (scalar-name s))
-  bare-named e = e ∙ ap (λ (o : Option Scalar). each (carried 8) (each (plain K.Scalar) o)) (sym g)
+module _ (b : Bool) {x : Reading} {o : Option Scalar} (s : Text) (g : scalar-name s ≡ o) where
+  pub bare-named : x ≡ answered b (each (carried 8) (each (plain K.Scalar) o)) → x ≡ answered b (each (carried 8) (each (plain K.Scalar) (scalar-name s)))
+  bare-named e = e ∙ ap (λ (o : Option Scalar). answered b (each (carried 8) (each (plain K.Scalar) o))) (sym g)
 
-  pub pointer-named : x ≡ each (carried 8) (each (plain K.Pointer) o) → x ≡ each (carried 8) (pointer s)
+  pub pointer-named : x ≡ answered b (each (carried 8) (each (plain K.Pointer) o)) → x ≡ answered b (each (carried 8) (pointer s))
   unfolding pointer
-  pointer-named e = e ∙ ap (λ (o : Option Scalar). each (carried 8) (each (plain K.Pointer) o)) (sym g)
+  pointer-named e = e ∙ ap (λ (o : Option Scalar). answered b (each (carried 8) (each (plain K.Pointer) o))) (sym g)
 
 -- ── the forms in order ──
 
@@ -57,13 +58,13 @@ module _ {all : List Form} {d : Option Found} {t : Text} {f : Form} {fs : List F
   pub past : {r : Applied} → Told (bytes (f .opens)) t r → r .applies ≡ false → Tried all d t fs
   past e h = record { same = next none (unapplied e h) }
 
-  pub decides : {x : Option Carried} (u : Text) → bracketed (bytes (f .opens)) t ≡ some u → x ≡ each (carried 8) (f .content u)
-      → x ≡ each (carried 8) (first-of all t d)
-  decides u e q = q ∙ sym (ap (each (carried 8)) (next (some u) e))
+  pub decides : (b : Bool) {x : Reading} (u : Text) → bracketed (bytes (f .opens)) t ≡ some u → x ≡ answered b (each (carried 8) (f .content u))
+      → x ≡ answered b (each (carried 8) (first-of all t d))
+  decides b u e q = q ∙ sym (ap (λ (o : Option Found). answered b (each (carried 8) o)) (next (some u) e))
 
-module _ {all fs : List Form} {d : Option Found} {t : Text} {x : Option Carried} where
-  pub at-last : Tried all d t fs → x ≡ each (carried 8) (first-of fs t d) → x ≡ each (carried 8) (first-of all t d)
-  at-last g q = q ∙ sym (ap (each (carried 8)) (g .same))
+module _ {all fs : List Form} {d : Option Found} {t : Text} {x : Reading} (b : Bool) where
+  pub at-last : Tried all d t fs → x ≡ answered b (each (carried 8) (first-of fs t d)) → x ≡ answered b (each (carried 8) (first-of all t d))
+  at-last g q = q ∙ sym (ap (λ (o : Option Found). answered b (each (carried 8) o)) (g .same))
 
 -- ── both spellings ──
 

@@ -1,5 +1,5 @@
--- Record and note that are made of what is carried are those of what was found; what is found is sound, so that its counts add up.
-use Prim.Native.Nat.{ℕ, zero, suc, _≤_, _<_}
+-- Record and note that are made of what is carried are those of what was found; a list that was read is sound, so that counts add up.
+use Prim.Native.Nat.{ℕ, zero, suc, _≤_}
 use native.Mathlib.Omega.{arith}
 use mathlib.Core.Bool.{Bool, true, false, _&&_, _||_, false≢true}
 use mathlib.Core.List.{List, [], _∷_}
@@ -8,23 +8,19 @@ use mathlib.Core.Path.{_≡_, refl, sym, ap, subst, _∙_}
 use borrow.Author.Tests.{leb-true}
 use lib.Dec.{leb}
 use lib.IntN.{ℤ, pos}
-use lib.ListN.{getD}
+use lib.ListN.{length, getD}
 use Rattle.lexis.specs.Text.{if_then_else_}
-use Rattle.meaning.specs.Found.{Clause, stands, filled, values, padded, Found, flat, within, lacking, counts, with-attribute}
+use Rattle.meaning.specs.Found.{Clause, stands, filled, values, padded, Found, flat, within, unreadable, lacking, counts, with-attribute}
 use Rattle.meaning.specs.Parts.{each}
 use Rattle.meaning.specs.Ordinary.{refused, accepted, judged}
 use Rattle.meaning.specs.declared.Note.{Note}
 use Rattle.meaning.specs.declared.Reading.{Reading}
 use Rattle.meaning.specs.declared.Record.{Record}
 use Rattle.meaning.specs.declared.Refusal.the-variants.{Accepted, TooMany}
-use Rattle.meaning.proofs.Whens.{When}
-use Rattle.meaning.proofs.Thin.{Thin}
-use Rattle.lists.specs.Laid.{row}
+use Rattle.lists.specs.Laid.{Laid, laid, row}
 use Rattle.lists.specs.declared.row.Row.{Row}
 use Rattle.lists.proofs.Bounds.{fell-within}
-use Rattle.port.specs.Carried.{Carried, carried, parts, said, any, lacks, noted, recorded, lengths-within, answered, Sound, Few}
-use Rattle.port.specs.declared.found.Parsed.{Parsed}
-use Rattle.port.proofs.Building.{has}
+use Rattle.port.specs.Carried.{carried, any, lacks, fell, rows-noted, noted, recorded, lengths-within, answered, Sound}
 
 -- ── the code's tests ──
 
@@ -47,43 +43,28 @@ pub or-false : (b : Bool) → b ≡ b || false
 or-false true = refl
 or-false false = refl
 
--- ── what is found is sound ──
+-- ── what was found is sound ──
 
-pub sound : {p : Parsed} (o : Option Found) → said p ≡ each (carried 8) o → When Thin o → p .found ≡ true → Sound (parts p)
-sound {p} o e w f =
-    let h = has (carried 8) (parts p) o e f in
-    let t = h .value in
-    let z = fell-within (t .sparse) in
-    let k : Thin t = subst (When Thin) (h .is) w in
-    subst Sound (sym (h .same)) (record {
-      shape = fell-within (t .shape);
-      strides = fell-within (t .strides);
-      tile = fell-within (t .tile);
-      map = fell-within (t .map);
-      traversal = fell-within (t .traversal);
-      sparse = omega arith;
-    })
+pub sound-list : {l : Laid} (c : Clause) → l ≡ laid 8 c → fell l ≤ l .row .len
+sound-list c e = subst (λ (m : Laid). fell m ≤ m .row .len) (sym e) (fell-within c)
+
+pub sound-one : {l : Laid} (c : Clause) → l ≡ laid 8 c → length (values c) ≤ 1 → fell l ≤ 1
+sound-one {l} c e h = let k = fell-within c in let n : fell l ≡ unreadable c = ap fell e in omega arith
 
 both : (a b : Bool) → a && b ≡ true → (a ≡ true) × (b ≡ true)
 both true b e = (refl, e)
 both false b e = absurd (false≢true e)
 
 -- within the capacity sums can't wrap
-pub few : {x : Carried} → Sound x → lengths-within 8 x ≡ true → Few x
-unfolding lengths-within
-few {x} g e =
-    let a = leb (x .shape .row .len) 8 in let b = leb (x .strides .row .len) 8 in let c = leb (x .tile .row .len) 8 in
-    let d = leb (x .map .row .len) 8 in let f = leb (x .traversal .row .len) 8 in
-    let s4 = both (a && b && c && d) f e in let s3 = both (a && b && c) d (s4 .0) in let s2 = both (a && b) c (s3 .0) in let s1 = both a b (s2 .0) in
-    let h1 = leb-true (x .shape .row .len) 8 (s1 .0) in let h2 = leb-true (x .strides .row .len) 8 (s1 .1) in
-    let h4 = leb-true (x .map .row .len) 8 (s3 .1) in let h5 = leb-true (x .traversal .row .len) 8 (s4 .1) in
-    record {
-      shape = omega (arith, g .shape);
-      strides = omega (arith, g .strides);
-      map = omega (arith, g .map);
-      traversal = omega (arith, g .traversal);
-      sparse = omega (arith, g .sparse);
-    }
+pub few : {a b t m w z : Laid} → Sound a b t m w z
+    → leb (a .row .len) 8 && leb (b .row .len) 8 && leb (t .row .len) 8 && leb (m .row .len) 8 && leb (w .row .len) 8 ≡ true
+    → (fell a ≤ 8) × (fell b ≤ 8) × (fell m ≤ 8) × (fell w ≤ 8) × (fell z ≤ 8)
+few {a} {b} {t} {m} {w} {z} g e =
+    let x = leb (a .row .len) 8 in let y = leb (b .row .len) 8 in let u = leb (t .row .len) 8 in let v = leb (m .row .len) 8 in
+    let s4 = both (x && y && u && v) (leb (w .row .len) 8) e in let s3 = both (x && y && u) v (s4 .0) in let s2 = both (x && y) u (s3 .0) in let s1 = both x y (s2 .0) in
+    let h1 = leb-true (a .row .len) 8 (s1 .0) in let h2 = leb-true (b .row .len) 8 (s1 .1) in
+    let h4 = leb-true (m .row .len) 8 (s3 .1) in let h5 = leb-true (w .row .len) 8 (s4 .1) in
+    (omega (arith, g .shape), omega (arith, g .strides), omega (arith, g .map), omega (arith, g .traversal), omega (arith, g .sparse))
 
 -- ── the answer ──
 
@@ -107,7 +88,7 @@ module _ (t : Found) where
   recorded-is false = rw (first (values (t .sparse)))
 
   noted-is : (b : Bool) → noted (carried 8 t) ≡ counts (marked b t)
-  unfolding noted counts with-attribute
+  unfolding rows-noted counts with-attribute
   noted-is true = rw (lacks-is (t .strides), lacks-is (t .map), lacks-is (t .traversal), lacks-is (t .sparse))
   noted-is false = rw (lacks-is (t .strides), lacks-is (t .map), lacks-is (t .traversal), lacks-is (t .sparse))
 

@@ -18,10 +18,7 @@ use Rattle.meaning.specs.Parts.{each, remove}
 use Rattle.meaning.specs.Ordinary.{unmarked, mark, passes, parse, refused, judged}
 use Rattle.meaning.specs.declared.Reading.{Reading}
 use Rattle.meaning.specs.declared.Refusal.the-variants.{TooLong}
-use Rattle.meaning.proofs.Everywhere.{unmarked-all, read}
-use Rattle.meaning.proofs.Thin.{Thin, thin}
-use Rattle.meaning.proofs.Whens.{When}
-use Rattle.port.specs.Carried.{Carried, carried, answered}
+use Rattle.port.specs.Carried.{carried, answered}
 use Rattle.port.specs.Passes.{Rewritten, reads-on}
 use Rattle.port.proofs.Making.{marked, answered-is}
 use Rattle.port.proofs.Removal.{remove-less, remove-none, remove-without, remove-within, mark-length}
@@ -80,18 +77,6 @@ enough (suc n) (suc m) s h k =
     alike (unmarked (trim s)) (reads-on n (remove mark (trim s))) (reads-on m (remove mark (trim s))) (cut mark (trim s))
     (λ e. let w = less (trim s) e in let t = trim-within s in enough n m (remove mark (trim s)) (omega arith) (omega arith))
 
--- every type that is found has one sparse dimension at most
-pub reads-thin : (n : ℕ) (s : Text) → When Thin (reads-on n s)
-reads-thin zero s = tt
-reads-thin (suc n) s = by (cut mark (trim s)) (reads-on n (remove mark (trim s))) (reads-thin n (remove mark (trim s)))
-  where
-    by : (c : Cut) (o : Option Found) → When Thin o → When Thin (pass (unmarked (trim s)) o c)
-    by nowhere o h = unmarked-all Thin (read Thin thin) (trim s)
-    by (at u t) o h = h
-
-pub unmarked-thin : (s : Text) → When Thin (unmarked s)
-unmarked-thin s = unmarked-all Thin (read Thin thin) s
-
 -- ── the attribute, once for all passes ──
 
 twice : (o : Option Found) → each with-attribute (each with-attribute o) ≡ each with-attribute o
@@ -127,9 +112,9 @@ module _ (s u t : Text) (q : u ≡ trim s) (e : t ≡ remove mark u) where
     unfolding parse
     parse-here = ap unmarked (same-text ∙ q) ∙ sym (at-none (unmarked (trim s)) (each with-attribute (passes (length s) (remove mark (trim s)))) (cut mark (trim s)) no-mark)
 
-    pub unmarked-answer : {x : Reading} {o : Option Carried} → length s ≤ 1024 → x ≡ answered false o → o ≡ each (carried 8) (unmarked t)
+    pub unmarked-answer : {x : Reading} → length s ≤ 1024 → x ≡ answered false (each (carried 8) (unmarked t))
         → x ≡ (if leb (length s) 1024 then judged 8 (parse s) else refused 8 TooLong 0)
-    unmarked-answer l f g = f ∙ ap (answered false) g ∙ answered-is false (unmarked t) ∙ ap (judged 8) (plain (unmarked t) ∙ parse-here)
+    unmarked-answer l f = f ∙ answered-is false (unmarked t) ∙ ap (judged 8) (plain (unmarked t) ∙ parse-here)
         ∙ sym (ap (λ (b : Bool). if b then judged 8 (parse s) else refused 8 TooLong 0) (le-leb (length s) 1024 l))
       where
         plain : (o : Option Found) → each (marked false) o ≡ o
@@ -150,13 +135,13 @@ module _ (s u t : Text) (q : u ≡ trim s) (e : t ≡ remove mark u) where
         enough (suc m) n t (omega arith) (omega arith) ∙ ap (reads-on n) (e ∙ ap (remove mark) q)
         ∙ sym (at-one (unmarked (trim s)) (reads-on n (remove mark (trim s))) (cut mark (trim s)) one-mark)
 
-    pub marked-answer : {x : Reading} {o : Option Carried} (m : ℕ) → length t ≤ m → length s ≤ 1024 → x ≡ answered true o → o ≡ each (carried 8) (reads-on (suc m) t)
+    pub marked-answer : {x : Reading} (m : ℕ) → length t ≤ m → length s ≤ 1024 → x ≡ answered true (each (carried 8) (reads-on (suc m) t))
         → x ≡ (if leb (length s) 1024 then judged 8 (parse s) else refused 8 TooLong 0)
     unfolding parse
-    marked-answer m k l f g =
+    marked-answer m k l f =
         let w = shorter in
         let r : reads-on (suc m) t ≡ reads-on (length s) (remove mark (trim s)) = enough (suc m) (length s) t (omega arith) (omega arith) ∙ ap (reads-on (length s)) (e ∙ ap (remove mark) q) in
-        f ∙ ap (answered true) g ∙ answered-is true (reads-on (suc m) t)
+        f ∙ answered-is true (reads-on (suc m) t)
         ∙ ap (λ (o : Option Found). judged 8 (each with-attribute o)) r
         ∙ ap (judged 8) (sym (once (length s) (remove mark (trim s)))
         ∙ sym (at-one (unmarked (trim s)) (each with-attribute (passes (length s) (remove mark (trim s)))) (cut mark (trim s)) one-mark))

@@ -25,7 +25,8 @@ use Rattle.lists.specs.declared.list.List32.{List32}
 use Rattle.port.specs.Keys.{Scanned, At-most, from}
 use Rattle.port.specs.declared.survey.Scanning.{Scanning}
 use Rattle.port.proofs.Sighting.{told-some, told-none}
-use Rattle.port.specs.Carried.{Carried, carried, built, Tensored, tensored, tensor-parts, Tensor-is, Viewed, viewed, view-parts, View-is, Tile-is, List-is, list-laid}
+use Rattle.port.proofs.Making.{sound-list}
+use Rattle.port.specs.Carried.{Carried, carried, built, fell, Tensored, tensored, tensor-parts, Tensor-is, Viewed, viewed, view-parts, View-is, Tile-is, List-is, list-laid}
 use Rattle.port.specs.declared.tensor_view.Tensor.{Tensor}
 use Rattle.port.specs.declared.views.TileShape.{TileShape}
 use Rattle.port.specs.declared.views.View.{View}
@@ -167,6 +168,10 @@ module _ (s : Text) {v : View} (g : View-is v (W.view s)) where
   module _ (f : v .found ≡ true) where
     has : B.Has (viewed 8) (W.view s) (view-parts v)
     has = B.has (viewed 8) (view-parts v) (W.view s) (g .is) f
+
+    pub sound : (fell (list64 (v .tensor .shape)) ≤ v .tensor .shape .row .len) × (fell (list64 (v .tensor .strides)) ≤ v .tensor .strides .row .len)
+    sound = let t = has .value .tensor in
+        (sound-list (t .shape) (ap (λ (x : Viewed). x .tensor .shape) (has .same)), sound-list (t .strides) (ap (λ (x : Viewed). x .tensor .strides) (has .same)))
 
     -- as many tile entries as the code says
     count : v .tile .row .len ≡ length (has .value .tile)

@@ -1,5 +1,5 @@
 -- Tiles: what is read of the dimensions before a pointer and of its pointee, and what is shown by the element and by the first `ptr<`.
-use Prim.Native.Nat.{ℕ, _+_, _-_}
+use Prim.Native.Nat.{ℕ, _+_, _-_, _≤_}
 use native.Mathlib.Omega.{arith}
 use mathlib.Core.Bool.{Bool}
 use mathlib.Core.List.{[], _∷_}
@@ -19,7 +19,8 @@ use Rattle.meaning.specs.Parts.{each, less-repeats}
 use Rattle.meaning.specs.Tile.{dimensions, tile-of, before-pointer, pointee, tile-by, tile}
 use Rattle.meaning.specs.declared.Kind.the-variants as K
 use Rattle.lists.specs.Laid.{Laid, laid}
-use Rattle.port.specs.Carried.{Carried, carried}
+use Rattle.port.specs.Carried.{Carried, carried, fell}
+use Rattle.port.proofs.Making.{sound-list}
 use Rattle.port.proofs.Building.{bare, tile-is}
 use Rattle.port.proofs.Cutting.{cut-found, cut-none}
 
@@ -58,6 +59,9 @@ module _ {f : Found} (t : Text) (e : spot f ≡ place (cut (bytes ">") t)) where
 -- the dimensions before it, as they are read of s
 abbrev pub Sized : Laid → Text → Type 0
 Sized l s = l ≡ laid 8 (dimensions (before-pointer (less-repeats (bytes "!cuda_tile.") (trim s))))
+
+pub sized-sound : {l : Laid} (s : Text) → Sized l s → fell l ≤ l .row .len
+sized-sound s e = sound-list (dimensions (before-pointer (less-repeats (bytes "!cuda_tile.") (trim s)))) e
 
 -- t is s trimmed, and u is what is left of it
 module _ {l : Laid} (s t u : Text) (p : t ≡ trim s) (q : u ≡ less-repeats (bytes "!cuda_tile.") t) where

@@ -1,4 +1,4 @@
--- What the port's parts answer, for private contracts: a type that was found, each list as it is carried; and what is made of it.
+-- What the port's parts answer, for private contracts: a type that was found, each list as it is carried, and the reading that is made of it.
 use Prim.Native.Nat.{ℕ, zero, suc, _+_, _-_, _≤_}
 use mathlib.Core.Bool.{Bool, true, false, _&&_, _||_}
 use mathlib.Core.Option.{Option, none, some}
@@ -22,7 +22,6 @@ use Rattle.meaning.specs.declared.Refusal.the-variants.{Accepted, NoType, TooMa
 use Rattle.lists.specs.Laid.{Laid, laid, list64, list32}
 use Rattle.lists.specs.declared.row.Row.{Row}
 use Rattle.port.specs.Keys.{Placed}
-use Rattle.port.specs.declared.found.Parsed.{Parsed}
 use Rattle.port.specs.declared.tensor_view.Tensor.{Tensor}
 use Rattle.port.specs.declared.brackets.Applied.{Applied}
 use Rattle.port.specs.declared.views.View.{View}
@@ -76,12 +75,6 @@ built k e p shape strides tile map traversal sparse padding = record {
   padding = padding;
 }
 
-abbrev pub parts : Parsed → Carried
-parts p = built (p .kind) (p .element) (p .pointer) (list64 (p .shape)) (list64 (p .strides)) (list32 (p .tile)) (list32 (p .map)) (list32 (p .traversal)) (list32 (p .sparse)) (p .padding)
-
-abbrev pub said : Parsed → Option Carried
-said p = if p .found then some (parts p) else none
-
 -- ── record and note ──
 
 -- 1 if there is any, else 0
@@ -96,13 +89,17 @@ lacks r = if r .stood then 0 else any (r .len)
 abbrev pub fell : Laid → ℕ
 fell l = l .row .tally .fell
 
-unfoldable pub noted : Carried → Note
-noted x = record {
-  a = fell (x .shape) + fell (x .strides);
-  b = fell (x .tile);
-  c = fell (x .map) + fell (x .traversal) + fell (x .sparse);
-  d = lacks (x .strides .row) + lacks (x .map .row) + lacks (x .traversal .row) + lacks (x .sparse .row);
+-- what is noted of all lists, by their rows
+unfoldable pub rows-noted : Row → Row → Row → Row → Row → Row → Note
+rows-noted shape strides tile map traversal sparse = record {
+  a = shape .tally .fell + strides .tally .fell;
+  b = tile .tally .fell;
+  c = map .tally .fell + traversal .tally .fell + sparse .tally .fell;
+  d = lacks strides + lacks map + lacks traversal + lacks sparse;
 }
+
+abbrev pub noted : Carried → Note
+noted x = rows-noted (x .shape .row) (x .strides .row) (x .tile .row) (x .map .row) (x .traversal .row) (x .sparse .row)
 
 unfoldable pub recorded : Bool → Carried → Record
 recorded marked x = record {
@@ -135,22 +132,13 @@ answered marked (some x) =
     if lengths-within 8 x then record { refusal = Accepted; place = 0; value = recorded marked x; note = noted x }
     else O.refused 8 TooMany 0
 
--- no more entries fell back than there are; of a sparse dimension there is one
-pub record Sound (x : Carried) : Type 0 where
-  pub shape : fell (x .shape) ≤ x .shape .row .len
-  pub strides : fell (x .strides) ≤ x .strides .row .len
-  pub tile : fell (x .tile) ≤ x .tile .row .len
-  pub map : fell (x .map) ≤ x .map .row .len
-  pub traversal : fell (x .traversal) ≤ x .traversal .row .len
-  pub sparse : fell (x .sparse) ≤ 1
-
--- so that sums can't wrap within the capacity
-pub record Few (x : Carried) : Type 0 where
-  pub shape : fell (x .shape) ≤ 8
-  pub strides : fell (x .strides) ≤ 8
-  pub map : fell (x .map) ≤ 8
-  pub traversal : fell (x .traversal) ≤ 8
-  pub sparse : fell (x .sparse) ≤ 8
+-- no more entries fell back than there are, of one sparse dimension: within the capacity the counts add up
+pub record Sound (a b t m w z : Laid) : Type 0 where
+  pub shape : fell a ≤ a .row .len
+  pub strides : fell b ≤ b .row .len
+  pub map : fell m ≤ m .row .len
+  pub traversal : fell w ≤ w .row .len
+  pub sparse : fell z ≤ 1
 
 -- ── a tensor view ──
 

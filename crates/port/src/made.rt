@@ -1,26 +1,35 @@
-// Record and note of a type that was found: here alone they are put together.
-use super::found::Parsed;
+// Record and note of a type that was found, or its refusal: here alone they are put together.
+use lists::List32;
+use lists::List64;
 use lists::Row;
 use meaning::CAP;
+use meaning::Kind;
 use meaning::Note;
+use meaning::Padding;
 use meaning::Reading;
 use meaning::Record;
 use meaning::Refusal;
 use meaning::refuse;
+use scalars::Scalar;
+ghost use Prim.Native.Nat.{_≤_};
 ghost use mathlib.Core.Path.{_≡_};
-ghost use mathlib.Core.Bool.{true};
-ghost use Rattle.port.specs.Carried.{parts, said, lacks, noted, recorded, lengths-within, answered, Few, Sound};
+ghost use mathlib.Core.Bool.{_&&_};
+ghost use mathlib.Core.Option.{some};
+ghost use lib.Dec.{leb};
+ghost use Rattle.meaning.specs.Found.{unused, plain};
+ghost use Rattle.meaning.specs.declared.Padding.the-variants.{Absent};
+ghost use Rattle.lists.specs.Laid.{laid, list64, list32};
+ghost use Rattle.port.specs.Carried.{carried, built, fell, lacks, rows-noted, answered, Sound};
 
 // No list has over eight entries.
-fn within(p: Parsed) -> bool
-    ensures { λ e. ⌜ e ≡ lengths-within 8 (parts p) ⌝ }
+fn within(shape: Row, strides: Row, tile: Row, map: Row, traversal: Row) -> bool
+    ensures { λ e. ⌜ e ≡ leb (shape .len) 8 && leb (strides .len) 8 && leb (tile .len) 8 && leb (map .len) 8 && leb (traversal .len) 8 ⌝ }
 {
-    let a = p.shape.row;
-    let b = p.strides.row;
-    let c = p.tile.row;
-    let d = p.map.row;
-    let e = p.traversal.row;
-    (a.len <= CAP) & (b.len <= CAP) & (c.len <= CAP) & (d.len <= CAP) & (e.len <= CAP)
+    (shape.len <= CAP)
+        & (strides.len <= CAP)
+        & (tile.len <= CAP)
+        & (map.len <= CAP)
+        & (traversal.len <= CAP)
 }
 
 // A whole clause that was filled in counts once; one without an entry fills nothing in.
@@ -34,16 +43,10 @@ fn lacks(r: Row) -> usize
 }
 
 // What is noted of all lists.
-fn noted(p: Parsed) -> Note
-    requires { ⌜ Few (parts p) ⌝ }
-    ensures { λ r. ⌜ r ≡ noted (parts p) ⌝ }
+fn noted(shape: Row, strides: Row, tile: Row, map: Row, traversal: Row, sparse: Row) -> Note
+    requires { ⌜ (shape .tally .fell ≤ 8) × (strides .tally .fell ≤ 8) × (map .tally .fell ≤ 8) × (traversal .tally .fell ≤ 8) × (sparse .tally .fell ≤ 8) ⌝ }
+    ensures { λ r. ⌜ r ≡ rows-noted shape strides tile map traversal sparse ⌝ }
 {
-    let shape = p.shape.row;
-    let strides = p.strides.row;
-    let tile = p.tile.row;
-    let map = p.map.row;
-    let traversal = p.traversal.row;
-    let sparse = p.sparse.row;
     Note {
         a: shape.tally.fell + strides.tally.fell,
         b: tile.tally.fell,
@@ -52,59 +55,98 @@ fn noted(p: Parsed) -> Note
     }
 }
 
-fn recorded(p: Parsed, attribute: bool) -> Record
-    ensures { λ r. ⌜ r ≡ recorded attribute (parts p) ⌝ }
+// The reading of what was found, `marked` or not; or refusal 4.
+pub(crate) fn made(
+    kind: Kind,
+    element: Scalar,
+    pointer: bool,
+    shape: List64,
+    strides: List64,
+    tile: List32,
+    map: List32,
+    traversal: List32,
+    sparse: List32,
+    padding: Padding,
+    marked: bool,
+) -> Reading
+    requires { ⌜ Sound (list64 shape) (list64 strides) (list32 tile) (list32 map) (list32 traversal) (list32 sparse) ⌝ }
+    ensures { λ r. ⌜ r ≡ answered marked (some (built kind element pointer (list64 shape) (list64 strides) (list32 tile) (list32 map) (list32 traversal) (list32 sparse) padding)) ⌝ }
 {
-    let a = p.shape;
-    let b = p.strides;
-    let c = p.tile;
-    let d = p.map;
-    let e = p.traversal;
-    let shape = a.values;
-    let strides = b.values;
-    let tile = c.values;
-    let map = d.values;
-    let traversal = e.values;
-    let one = p.sparse.values;
-    let sparse = one[0];
-    let kind = p.kind;
-    let element = p.element;
-    let padding = p.padding;
-    Record {
-        shape_len: a.row.len,
-        strides_len: b.row.len,
-        tile_len: c.row.len,
-        map_len: d.row.len,
-        traversal_len: e.row.len,
-        shape,
-        strides,
-        tile,
-        map,
-        traversal,
-        sparse,
-        kind,
+    let a = shape.row;
+    let b = strides.row;
+    let c = tile.row;
+    let d = map.row;
+    let e = traversal.row;
+    if !within(a, b, c, d, e) {
+        return refuse(Refusal::TooMany, 0);
+    }
+    let f = sparse.row;
+    let note = noted(a, b, c, d, e, f);
+    let shapes = shape.values;
+    let steps = strides.values;
+    let tiles = tile.values;
+    let maps = map.values;
+    let walks = traversal.values;
+    let one = sparse.values;
+    let dim = one[0];
+    let value = Record {
+        shape_len: a.len,
+        strides_len: b.len,
+        tile_len: c.len,
+        map_len: d.len,
+        traversal_len: e.len,
+        shape: shapes,
+        strides: steps,
+        tile: tiles,
+        map: maps,
+        traversal: walks,
+        sparse: dim,
+        kind, // that of the form
         element,
         padding,
-        pointer: p.pointer,
-        attribute,
+        pointer,
+        attribute: marked,
+    };
+    Reading {
+        value,
+        place: 0,
+        note,
+        refusal: Refusal::Accepted,
     }
 }
 
-// The reading of what was found, with the attribute or without: refusal 3, then 4.
-pub(crate) fn made(p: Parsed, attribute: bool) -> Reading
-    requires { ⌜ (p .found ≡ true → Sound (parts p)) ⌝ }
-    ensures { λ r. ⌜ r ≡ answered attribute (said p) ⌝ }
+// A type without a view's lists.
+pub(crate) fn simple(
+    kind: Kind,
+    element: Scalar,
+    pointer: bool,
+    shape: List64,
+    strides: List64,
+    marked: bool,
+) -> Reading
+    requires { ⌜ (fell (list64 shape) ≤ shape .row .len) × (fell (list64 strides) ≤ strides .row .len) ⌝ }
+    ensures { λ r. ⌜ r ≡ answered marked (some (built kind element pointer (list64 shape) (list64 strides) (laid 8 unused) (laid 8 unused) (laid 8 unused) (laid 8 unused) Absent)) ⌝ }
 {
-    if !p.found {
-        return refuse(Refusal::NoType, 0);
-    }
-    if !within(p) {
-        return refuse(Refusal::TooMany, 0);
-    }
-    Reading {
-        value: recorded(p, attribute),
-        place: 0,
-        note: noted(p),
-        refusal: Refusal::Accepted,
-    }
+    let l = lists::none32();
+    made(
+        kind,
+        element,
+        pointer,
+        shape,
+        strides,
+        l,
+        l,
+        l,
+        l,
+        Padding::Absent,
+        marked,
+    )
+}
+
+// A type without lists.
+pub(crate) fn listless(kind: Kind, element: Scalar, marked: bool) -> Reading
+    ensures { λ r. ⌜ r ≡ answered marked (some (carried 8 (plain kind element))) ⌝ }
+{
+    let l = lists::none64();
+    simple(kind, element, false, l, l, marked)
 }

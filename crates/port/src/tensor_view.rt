@@ -1,10 +1,11 @@
 // Tensor views (01, module 5).
-use super::found::Parsed;
-use super::found::nothing;
-use super::found::simple;
 use super::keys::Places;
+use super::made::simple;
 use lists::List64;
 use meaning::Kind;
+use meaning::Reading;
+use meaning::Refusal;
+use meaning::refuse;
 use scalars::Named;
 use scalars::Scalar;
 ghost use Prim.Native.Nat.{_+_, _≤_};
@@ -15,7 +16,7 @@ ghost use Rattle.meaning.specs.Parts.{each};
 ghost use Rattle.meaning.specs.Tile.{dimensions, stride-parts, tensor-parts, tensor, tensor-view};
 ghost use Rattle.lists.specs.Laid.{laid, list64};
 ghost use Rattle.port.specs.Keys.{Placed};
-ghost use Rattle.port.specs.Carried.{said, carried, Tensor-is};
+ghost use Rattle.port.specs.Carried.{carried, answered, Tensor-is};
 
 // A tensor view's parts, where there is one.
 pub struct Tensor {
@@ -106,16 +107,16 @@ pub(crate) fn no_tensor() -> Tensor
     }
 }
 
-pub(crate) fn parse_tensor_view(inner: &[u8], k: Places) -> Parsed
+pub(crate) fn parse_tensor_view(inner: &[u8], k: Places, marked: bool) -> Reading
     requires { ⌜ Placed (now inner) k ⌝ }
-    ensures { λ r. ⌜ said r ≡ each (carried 8) (tensor-view (now (inner .entry))) ⌝ }
+    ensures { λ r. ⌜ r ≡ answered marked (each (carried 8) (tensor-view (now (inner .entry)))) ⌝ }
 {
     let t = parse_tensor(inner, k);
     if !t.found {
-        return nothing();
+        return refuse(Refusal::NoType, 0);
     }
     let element = t.element;
     let shape = t.shape;
     let strides = t.strides;
-    simple(Kind::TensorView, element, false, shape, strides)
+    simple(Kind::TensorView, element, false, shape, strides, marked)
 }

@@ -1,10 +1,7 @@
 // `Type::parse` (01, module 7).
 use super::brackets::applies;
 use super::brackets::strip_prefix_suffix;
-use super::found::Parsed;
-use super::found::listless;
-use super::found::nothing;
-use super::made::made;
+use super::made::listless;
 use super::marks::to_read;
 use super::marks::without_marks;
 use super::tensor_view::parse_tensor_view;
@@ -20,6 +17,7 @@ use scalars::Named;
 use scalars::Scalar;
 ghost use Prim.Native.Nat.{suc, _≤_};
 ghost use mathlib.Core.Path.{_≡_};
+ghost use mathlib.Core.Bool.{true};
 ghost use lib.Dec.{leb};
 ghost use lib.ListN.{take, drop, length};
 ghost use Rattle.lexis.specs.Text.{if_then_else_};
@@ -27,26 +25,26 @@ ghost use Rattle.meaning.specs.Parts.{each};
 ghost use Rattle.meaning.specs.Ordinary as O;
 ghost use Rattle.meaning.specs.Ordinary.{pointer, unmarked, judged, refused};
 ghost use Rattle.meaning.specs.declared.Refusal.the-variants.{TooLong};
-ghost use Rattle.port.specs.Carried.{said, carried};
+ghost use Rattle.port.specs.Carried.{carried, answered};
 ghost use Rattle.port.specs.Forms.{shorthand, unprefixed, bare, first-of};
 ghost use Rattle.port.specs.Passes.{reads-on};
 
-fn parse_ptr(inner: &[u8]) -> Parsed
-    ensures { λ r. ⌜ said r ≡ each (carried 8) (pointer (now (inner .entry))) ⌝ }
+fn parse_ptr(inner: &[u8], marked: bool) -> Reading
+    ensures { λ r. ⌜ r ≡ answered marked (each (carried 8) (pointer (now (inner .entry)))) ⌝ }
 {
     match scalars::parse_scalar(inner) {
-        Named::Is(e) => listless(Kind::Pointer, e),
-        Named::Unknown => nothing(),
+        Named::Is(e) => listless(Kind::Pointer, e, marked),
+        Named::Unknown => refuse(Refusal::NoType, 0),
     }
 }
 
 // Bare scalar name.
-fn parse_bare(s: &[u8]) -> Parsed
-    ensures { λ r. ⌜ said r ≡ each (carried 8) (bare (now (s .entry))) ⌝ }
+fn parse_bare(s: &[u8], marked: bool) -> Reading
+    ensures { λ r. ⌜ r ≡ answered marked (each (carried 8) (bare (now (s .entry)))) ⌝ }
 {
     match scalars::parse_scalar(s) {
-        Named::Is(e) => listless(Kind::Scalar, e),
-        Named::Unknown => nothing(),
+        Named::Is(e) => listless(Kind::Scalar, e, marked),
+        Named::Unknown => refuse(Refusal::NoType, 0),
     }
 }
 
@@ -62,76 +60,89 @@ fn unprefixed(s: &[u8]) -> &[u8]
 }
 
 // The last form, by `t`, which is `s` without the prefix; then `s` as a bare scalar.
-fn parse_last(s: &[u8], t: &[u8]) -> Parsed
-    ensures { λ r. ⌜ said r ≡ each (carried 8) (first-of (drop 5 shorthand) (now (t .entry)) (bare (now (s .entry)))) ⌝ }
+fn parse_last(s: &[u8], t: &[u8], marked: bool) -> Reading
+    ensures { λ r. ⌜ r ≡ answered marked (each (carried 8) (first-of (drop 5 shorthand) (now (t .entry)) (bare (now (s .entry))))) ⌝ }
 {
     let q = applies(t, b"ptr<");
     if q.applies {
-        return parse_ptr(strip_prefix_suffix(t, b"ptr<", q.len));
+        return parse_ptr(strip_prefix_suffix(t, b"ptr<", q.len), marked);
     }
-    parse_bare(s)
+    parse_bare(s, marked)
 }
 
 // The views, then the last form.
-fn parse_views(s: &[u8], t: &[u8]) -> Parsed
-    ensures { λ r. ⌜ said r ≡ each (carried 8) (first-of (drop 2 shorthand) (now (t .entry)) (bare (now (s .entry)))) ⌝ }
+fn parse_views(s: &[u8], t: &[u8], marked: bool) -> Reading
+    ensures { λ r. ⌜ r ≡ answered marked (each (carried 8) (first-of (drop 2 shorthand) (now (t .entry)) (bare (now (s .entry))))) ⌝ }
 {
     let p = applies(t, b"partition_view<");
     if p.applies {
-        return parse_partition_view(strip_prefix_suffix(t, b"partition_view<", p.len), p.places);
+        return parse_partition_view(
+            strip_prefix_suffix(t, b"partition_view<", p.len),
+            p.places,
+            marked,
+        );
     }
     let g = applies(t, b"gather_scatter_view<");
     if g.applies {
         return parse_gather_scatter_view(
             strip_prefix_suffix(t, b"gather_scatter_view<", g.len),
             g.places,
+            marked,
         );
     }
     let d = applies(t, b"strided_view<");
     if d.applies {
-        return parse_strided_view(strip_prefix_suffix(t, b"strided_view<", d.len), d.places);
+        return parse_strided_view(
+            strip_prefix_suffix(t, b"strided_view<", d.len),
+            d.places,
+            marked,
+        );
     }
-    parse_last(s, t)
+    parse_last(s, t, marked)
 }
 
 // All forms, in this order.
-fn parse_named(s: &[u8], t: &[u8]) -> Parsed
-    ensures { λ r. ⌜ said r ≡ each (carried 8) (first-of shorthand (now (t .entry)) (bare (now (s .entry)))) ⌝ }
+fn parse_named(s: &[u8], t: &[u8], marked: bool) -> Reading
+    ensures { λ r. ⌜ r ≡ answered marked (each (carried 8) (first-of shorthand (now (t .entry)) (bare (now (s .entry))))) ⌝ }
 {
     let e = applies(t, b"tile<");
     if e.applies {
-        return parse_tile(strip_prefix_suffix(t, b"tile<", e.len), e.places);
+        return parse_tile(strip_prefix_suffix(t, b"tile<", e.len), e.places, marked);
     }
     let v = applies(t, b"tensor_view<");
     if v.applies {
-        return parse_tensor_view(strip_prefix_suffix(t, b"tensor_view<", v.len), v.places);
+        return parse_tensor_view(
+            strip_prefix_suffix(t, b"tensor_view<", v.len),
+            v.places,
+            marked,
+        );
     }
-    parse_views(s, t)
+    parse_views(s, t, marked)
 }
 
 // A trimmed text without marks. Both `!cuda_tile.token` and shorthand `token` are accepted.
-fn parse_unmarked(s: &[u8]) -> Parsed
-    ensures { λ r. ⌜ said r ≡ each (carried 8) (unmarked (now (s .entry))) ⌝ }
+fn parse_unmarked(s: &[u8], marked: bool) -> Reading
+    ensures { λ r. ⌜ r ≡ answered marked (each (carried 8) (unmarked (now (s .entry)))) ⌝ }
 {
     let t = unprefixed(s);
     if lexis::same(t, b"token") {
-        return listless(Kind::Token, Scalar::I1);
+        return listless(Kind::Token, Scalar::I1, marked);
     }
-    parse_named(s, t)
+    parse_named(s, t, marked)
 }
 
 // Reads the text that stands in the first `n` bytes of `a`, once no mark is left in it: while one does, the rewritten text stands in the
 // other room, and is read so in turn. Nothing is done after that call, so that all passes take the stack of one.
-fn read_on(a: &mut [u8], n: usize, b: &mut [u8]) -> Parsed
+fn read_on(a: &mut [u8], n: usize, b: &mut [u8]) -> Reading
     requires { ⌜ (n ≤ length (now a)) × (n ≤ length (now b)) ⌝ }
-    ensures { λ r. ⌜ said r ≡ each (carried 8) (reads-on (suc n) (take n (now (a .entry)))) ⌝ }
+    ensures { λ r. ⌜ r ≡ answered true (each (carried 8) (reads-on (suc n) (take n (now (a .entry))))) ⌝ }
 {
     let s = lexis::trim(&a[..n]);
     let was = s.len();
     let m = without_marks(s, &mut *b);
     let t = to_read(s, &b[..], m);
     if t.len() == was {
-        return parse_unmarked(t);
+        return parse_unmarked(t, true);
     }
     read_on(b, m, a)
 }
@@ -149,8 +160,8 @@ pub fn parse(text: &[u8]) -> Reading
     let m = without_marks(s, &mut a);
     let t = to_read(s, &a, m);
     if t.len() == s.len() {
-        return made(parse_unmarked(t), false);
+        return parse_unmarked(t, false);
     }
     let mut b = [0u8; 1024];
-    made(read_on(&mut a, m, &mut b), true)
+    read_on(&mut a, m, &mut b)
 }

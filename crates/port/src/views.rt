@@ -1,8 +1,7 @@
 // The three views (01, module 6).
-use super::found::Parsed;
-use super::found::nothing;
 use super::inner::opens;
 use super::keys::Places;
+use super::made::made;
 use super::survey::scan;
 use super::tensor_view::Tensor;
 use super::tensor_view::no_tensor;
@@ -11,6 +10,9 @@ use lexis::Found;
 use lists::List32;
 use meaning::Kind;
 use meaning::Padding;
+use meaning::Reading;
+use meaning::Refusal;
+use meaning::refuse;
 ghost use Prim.Native.Nat.{_+_, _≤_, _<_};
 ghost use mathlib.Core.Path.{_≡_};
 ghost use mathlib.Core.Bool.{false};
@@ -24,7 +26,7 @@ ghost use Rattle.meaning.specs.Views.{tile-entries, opened, enclosed, inner-by,
 ghost use Rattle.meaning.specs.Views.{partition-view, gather-scatter-view, strided-view};
 ghost use Rattle.lists.specs.Laid.{laid, list32, list64};
 ghost use Rattle.port.specs.Keys.{Spot, Placed};
-ghost use Rattle.port.specs.Carried.{said, carried, built, Tensor-is, View-is, Tile-is, List-is, list-laid};
+ghost use Rattle.port.specs.Carried.{carried, built, answered, Sound, Tensor-is, View-is, Tile-is, List-is, list-laid};
 
 // The tile shape, and where what follows its `)` begins.
 pub struct TileShape {
@@ -216,8 +218,16 @@ fn parse_sparse(inner: &[u8], at: usize) -> List32
     lists::parse_one(&u[..n])
 }
 
-fn view_of(kind: Kind, v: View, map: List32, traversal: List32, sparse: List32) -> Parsed
-    ensures { λ r. ⌜ said r ≡ some (built kind (v .tensor .element) false (list64 (v .tensor .shape)) (list64 (v .tensor .strides)) (list32 (v .tile)) (list32 map) (list32 traversal) (list32 sparse) (v .padding)) ⌝ }
+fn view_of(
+    kind: Kind,
+    v: View,
+    map: List32,
+    traversal: List32,
+    sparse: List32,
+    marked: bool,
+) -> Reading
+    requires { ⌜ Sound (list64 (v .tensor .shape)) (list64 (v .tensor .strides)) (list32 (v .tile)) (list32 map) (list32 traversal) (list32 sparse) ⌝ }
+    ensures { λ r. ⌜ r ≡ answered marked (some (built kind (v .tensor .element) false (list64 (v .tensor .shape)) (list64 (v .tensor .strides)) (list32 (v .tile)) (list32 map) (list32 traversal) (list32 sparse) (v .padding))) ⌝ }
 {
     let t = v.tensor;
     let element = t.element;
@@ -225,11 +235,10 @@ fn view_of(kind: Kind, v: View, map: List32, traversal: List32, sparse: List32) 
     let strides = t.strides;
     let tile = v.tile;
     let padding = v.padding;
-    Parsed {
-        found: true,
-        kind, // that of the form
+    made(
+        kind,
         element,
-        pointer: false,
+        false,
         shape,
         strides,
         tile,
@@ -237,17 +246,18 @@ fn view_of(kind: Kind, v: View, map: List32, traversal: List32, sparse: List32) 
         traversal,
         sparse,
         padding,
-    }
+        marked,
+    )
 }
 
 // `tile=(dims), [padding_value=X,] tensor_view<...>[, dim_map=[...]]`.
-pub(crate) fn parse_partition_view(inner: &[u8], k: Places) -> Parsed
+pub(crate) fn parse_partition_view(inner: &[u8], k: Places, marked: bool) -> Reading
     requires { ⌜ Placed (now inner) k ⌝ }
-    ensures { λ r. ⌜ said r ≡ each (carried 8) (partition-view (now (inner .entry))) ⌝ }
+    ensures { λ r. ⌜ r ≡ answered marked (each (carried 8) (partition-view (now (inner .entry)))) ⌝ }
 {
     let v = parse_view(inner, k);
     if !v.found {
-        return nothing();
+        return refuse(Refusal::NoType, 0);
     }
     let tile = v.tile;
     match list_after(inner, b"dim_map=[", k.map) {
@@ -258,26 +268,28 @@ pub(crate) fn parse_partition_view(inner: &[u8], k: Places) -> Parsed
                 lists::parse_smalls(&inner[a..e], b',', 0),
                 lists::none32(),
                 lists::none32(),
+                marked,
             )
         }
-        Closed::Unclosed => nothing(),
+        Closed::Unclosed => refuse(Refusal::NoType, 0),
         Closed::Absent => view_of(
             Kind::Partition,
             v,
             lists::count_up(tile.row.len),
             lists::none32(),
             lists::none32(),
+            marked,
         ),
     }
 }
 
-pub(crate) fn parse_gather_scatter_view(inner: &[u8], k: Places) -> Parsed
+pub(crate) fn parse_gather_scatter_view(inner: &[u8], k: Places, marked: bool) -> Reading
     requires { ⌜ Placed (now inner) k ⌝ }
-    ensures { λ r. ⌜ said r ≡ each (carried 8) (gather-scatter-view (now (inner .entry))) ⌝ }
+    ensures { λ r. ⌜ r ≡ answered marked (each (carried 8) (gather-scatter-view (now (inner .entry)))) ⌝ }
 {
     let v = parse_view(inner, k);
     if !v.found {
-        return nothing();
+        return refuse(Refusal::NoType, 0);
     }
     view_of(
         Kind::GatherScatter,
@@ -285,16 +297,17 @@ pub(crate) fn parse_gather_scatter_view(inner: &[u8], k: Places) -> Parsed
         lists::none32(),
         lists::none32(),
         parse_sparse(inner, k.sparse),
+        marked,
     )
 }
 
-pub(crate) fn parse_strided_view(inner: &[u8], k: Places) -> Parsed
+pub(crate) fn parse_strided_view(inner: &[u8], k: Places, marked: bool) -> Reading
     requires { ⌜ Placed (now inner) k ⌝ }
-    ensures { λ r. ⌜ said r ≡ each (carried 8) (strided-view (now (inner .entry))) ⌝ }
+    ensures { λ r. ⌜ r ≡ answered marked (each (carried 8) (strided-view (now (inner .entry)))) ⌝ }
 {
     let v = parse_view(inner, k);
     if !v.found {
-        return nothing();
+        return refuse(Refusal::NoType, 0);
     }
     let tile = v.tile;
     let n = tile.row.len;
@@ -305,5 +318,5 @@ pub(crate) fn parse_strided_view(inner: &[u8], k: Places) -> Parsed
         k.traversal,
         lists::ones(n),
     );
-    view_of(Kind::Strided, v, map, traversal, lists::none32())
+    view_of(Kind::Strided, v, map, traversal, lists::none32(), marked)
 }

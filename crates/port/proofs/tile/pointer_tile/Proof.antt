@@ -1,11 +1,14 @@
 -- `pointer_tile` meets its contract: the pointee ends at the first `>`, and the shape stands before the pointer.
 use mathlib.Core.Bool.{true}
-use mathlib.Core.Path.{sym}
+use mathlib.Core.Path.{refl, sym, ap, _∙_}
 use native.Mathlib.Omega.{arith}
 use borrow.Author.Needs.{needs}
 use lib.Seq.{length-take-le}
 use Rattle.lexis.specs.Text.{bytes}
 use Rattle.port.proofs.Cutting as C
+use Rattle.meaning.specs.Found.{unused}
+use Rattle.port.specs.Carried.{answered}
+use Rattle.port.proofs.Making as M
 use Rattle.port.proofs.Tiling as L
 use Rattle.port.proofs.tile.pointer_tile.Statement.{statement}
 use Rattle.port.proofs.tile.pointer_tile.Tie as tie
@@ -23,17 +26,17 @@ pointer-tile-spec =
     (λ c. search needs)
     (λ c κs. search needs)
     (λ c κs. search needs)
-    (λ c κs. search needs)
+    (λ c κs. (L.sized-sound (c .before .before .before .before .before .before .before .before .before .before .before .before .before .before .args .before .now) (c .before .pointer-shape .ensures), M.sound-list unused (c .none64 .ensures)))
     (λ c. search needs)
     (λ c κs. search needs)
     (λ c. search needs)
     (λ c κs. search needs)
     (λ c. let e = c .before .before .before .before in let d = e .before .before in let n = d .before .before .before in let p = n .before .before in
-    let t = p .before .before .before .before .args .after .now in
-    L.tile-some true _ (c .simple .ensures) (L.pointee-is t (p .find .ensures) (n .n .given .1) (d .parse-scalar .ensures) (e .e .given .1))
-    (c .before .before .pointer-shape .ensures) (c .before .none64 .ensures))
+    let a = p .before .before .before .before .args in let t = a .after .now in
+    c .simple .ensures ∙ ap (answered (a .marked)) (L.tile-some true _ refl (L.pointee-is t (p .find .ensures) (n .n .given .1) (d .parse-scalar .ensures) (e .e .given .1))
+    (c .before .before .pointer-shape .ensures) (c .before .none64 .ensures)))
     (λ c. let d = c .before .before .before in let n = d .before .before .before in let p = n .before .before in
-    let t = p .before .before .before .before .args .after .now in
-    L.tile-none true _ (c .nothing .ensures) (L.pointee-is t (p .find .ensures) (n .n .given .1) (d .parse-scalar .ensures) (c .before .enum-told .given .1)))
-    (λ c. let p = c .before .before .before in
-    L.tile-none true _ (c .nothing2 .ensures) (L.pointee-none (p .before .before .before .before .args .after .now) (p .find .ensures) (c .before .enum-told2 .given .1))))
+    let a = p .before .before .before .before .args in let t = a .after .now in
+    c .refuse .ensures ∙ ap (answered (a .marked)) (L.tile-none true _ refl (L.pointee-is t (p .find .ensures) (n .n .given .1) (d .parse-scalar .ensures) (c .before .enum-told .given .1))))
+    (λ c. let p = c .before .before .before in let a = p .before .before .before .before .args in
+    c .refuse2 .ensures ∙ ap (answered (a .marked)) (L.tile-none true _ refl (L.pointee-none (a .after .now) (p .find .ensures) (c .before .enum-told2 .given .1)))))
