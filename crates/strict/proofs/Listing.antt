@@ -1,5 +1,5 @@
 -- A list of items at a place of a text: it ends there, goes on with an item, or is stuck in one. For any items and any separator.
-use Prim.Native.Nat.{ℕ, _+_, _-_, _≤_, _<_}
+use Prim.Native.Nat.{ℕ, _+_, _≤_, _<_}
 use native.Mathlib.Omega.{arith}
 use mathlib.Core.Bool.{Bool, true, false}
 use mathlib.Core.List.{List, [], _∷_}
@@ -13,7 +13,7 @@ use Rattle.grammar.specs.Piece.{Answer, got, stuck, member}
 use Rattle.grammar.specs.Join.{mapped}
 use Rattle.strict.specs.Rows.{more}
 use Rattle.strict.specs.Lists.{Row, row, nothing, pushed, pushes}
-use Rattle.strict.specs.Cursor.{Told, Spaced, valued, place, gap}
+use Rattle.strict.specs.Cursor.{Told, Spaced, place, gap}
 use Rattle.strict.specs.Words.{next}
 use Rattle.strict.proofs.Cursors.{valued-past, valued-off, place-past, past, begin}
 use Rattle.strict.proofs.Numbers.{view}

@@ -257,14 +257,6 @@ module _ (cap : ℕ) (r : Record) (a : Arrays cap r) (n : normal cap r ≡ true)
 
 -- ── a written text, read strictly ──
 
--- the form's meaning, laid in arrays, is the record
-pub mean-back : (cap : ℕ) (r : Record) → Arrays cap r → normal cap r ≡ true → When (λ f. flat-any cap (mean f) ≡ r) (form r)
-mean-back cap r a n = by (form r) (form-says cap r n)
-  where
-    by : (o : Option Form) → When (λ f. mean f ≡ own r) o → When (λ f. flat-any cap (mean f) ≡ r) o
-    by none h = tt
-    by (some f) h = ap (flat-any cap) h ∙ flat-own cap r a n
-
 -- a written text is strict, and its meaning is the record's own
 pub strict : (cap : ℕ) (r : Record) → Ranged r → normal cap r ≡ true → When (λ t. Strict t (own r)) (written r)
 unfolding written

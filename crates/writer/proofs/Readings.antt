@@ -20,7 +20,7 @@ use Rattle.meaning.specs.declared.Kind.the-variants as K
 use Rattle.meaning.specs.declared.Record.{Record}
 use Rattle.meaning.specs.declared.Refusal.{Refusal}
 use Rattle.meaning.specs.declared.Refusal.the-variants.{TooLong, HighByte, NoType, TooMany}
-use Rattle.meaning.specs.Parts.{each, last, front, less-repeats, between, close}
+use Rattle.meaning.specs.Parts.{last, front, less-repeats, between, close}
 use Rattle.meaning.specs.Found.{Clause, values, value, padded, Found, flat, within, made, unused, plain, token, with-attribute}
 use Rattle.meaning.specs.Tile as M
 use Rattle.meaning.specs.Tile.{Tensor}

@@ -1,4 +1,4 @@
--- A written text is strict: where a record has a form, the form is well formed, by the ranges of its numbers.
+-- Where a record has a form, the form is well formed, by the ranges of its numbers. So what is written is strict (`Back`).
 use Prim.Native.Nat.{ℕ, zero, suc, _-_, _^_, _<_}
 use native.Mathlib.Omega.{arith}
 use mathlib.Core.Bool.{Bool, true, false, _&&_}
@@ -18,8 +18,8 @@ use Rattle.meaning.specs.declared.Kind.the-variants as K
 use Rattle.meaning.specs.declared.Record.{Record}
 use Rattle.meaning.specs.Decimal.{in32, in64, dynamic, known}
 use Rattle.meaning.specs.Strict as S
-use Rattle.meaning.specs.Strict.{Tensor, View, Commas, Next, Form, values, spell}
-use Rattle.meaning.specs.Meant.{eachOf, tensorOk, viewOk, ok, mean, Strict}
+use Rattle.meaning.specs.Strict.{Tensor, View, Commas, Next, Form, values}
+use Rattle.meaning.specs.Meant.{eachOf, tensorOk, viewOk, ok}
 use Rattle.meaning.specs.Written as W
 use Rattle.meaning.specs.Written.{dimension-of, listed, first, form-as, form, tensor-of, view-of, tensor-in, view-in, shape-in, strides-in, tile-in, map-in, traversal-in}
 use Rattle.writer.proofs.Short.{Below, Ranged}
@@ -143,11 +143,3 @@ module _ (r : Record) (g : Ranged r) where
   -- where there is a form, it is well formed
   pub form-fine : When Fine (form r)
   form-fine = fine-as (r .kind)
-
-  -- so that its text is strict
-  pub form-strict : When (λ f. Strict (spell f) (mean f)) (form r)
-  form-strict = by (form r) form-fine
-    where
-      by : (o : Option Form) → When Fine o → When (λ f. Strict (spell f) (mean f)) o
-      by none h = tt
-      by (some f) h = record { form = f; fine = h; text = refl; says = refl }
