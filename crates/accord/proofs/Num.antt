@@ -3,7 +3,7 @@ use Prim.Native.Nat.{ℕ, zero, suc, _+_, _-_, _*_, _/_, _%_, _^_, _≤_, _<_}
 use native.Mathlib.Omega.{arith}
 use native.Mathlib.Nat.{mod-lt, zero-lt-suc, div-add-mod, le-refl}
 use mathlib.Core.Bool.{Bool, true, false, _&&_, _||_, not}
-use mathlib.Core.List.{List, [], _∷_, _++_, append-nil}
+use mathlib.Core.List.{List, [], _∷_, _++_}
 use mathlib.Core.Option.{none, some}
 use mathlib.Core.Path.{_≡_, refl, ap, _∙_}
 use lib.Dec.{T, eqb, leb, ltb, le→leb, leb→le, ltb→lt, nltb→le, eqb→eq}
@@ -56,21 +56,12 @@ digits-digit (suc f) n ds h = go (ltb n 10) (ltb→lt n 10) (digits-digit f (n /
     go true q r = and-in (digit (48 + n)) (every digit ds) (digit-ok n (q tt)) h
     go false q r = r
 
-digits-some : (f n : ℕ) (c : ℕ) (ds : List ℕ) → T (not (vacant (digits f n (c ∷ ds))))
-digits-some zero n c ds = tt
-digits-some (suc f) n c ds = go (ltb n 10) (digits-some f (n / 10) (48 + n % 10) (c ∷ ds))
+pub digits-any : (f n : ℕ) (ds : List ℕ) → T (not (vacant (digits f n ds)))
+digits-any zero n ds = tt
+digits-any (suc f) n ds = go (ltb n 10) (digits-any f (n / 10) ((48 + n % 10) ∷ ds))
   where
-    go : (k : Bool) → T (not (vacant (digits f (n / 10) ((48 + n % 10) ∷ c ∷ ds)))) →
-        T (not (vacant (elim k [ true ↦ (48 + n) ∷ c ∷ ds | false ↦ digits f (n / 10) ((48 + n % 10) ∷ c ∷ ds) ])))
-    go true r = tt
-    go false r = r
-
-pub digits-any : (f n : ℕ) → T (not (vacant (digits f n [])))
-digits-any zero n = tt
-digits-any (suc f) n = go (ltb n 10) (digits-some f (n / 10) (48 + n % 10) [])
-  where
-    go : (k : Bool) → T (not (vacant (digits f (n / 10) ((48 + n % 10) ∷ [])))) →
-        T (not (vacant (elim k [ true ↦ (48 + n) ∷ [] | false ↦ digits f (n / 10) ((48 + n % 10) ∷ []) ])))
+    go : (k : Bool) → T (not (vacant (digits f (n / 10) ((48 + n % 10) ∷ ds)))) →
+        T (not (vacant (elim k [ true ↦ (48 + n) ∷ ds | false ↦ digits f (n / 10) ((48 + n % 10) ∷ ds) ])))
     go true r = tt
     go false r = r
 
@@ -94,9 +85,14 @@ figure-visible c h = or-cases (digit c) (eqb c 45 || eqb c 63)
     (λ d. le→leb 33 c (let p = leb→le 48 c (and-left (leb 48 c) (leb c 57) d) in omega arith))
     (or-cases (eqb c 45) (eqb c 63) (λ e. le→leb 33 c (let p = eqb→eq c 45 e in omega arith)) (λ e. le→leb 33 c (let p = eqb→eq c 63 e in omega arith))) h
 
+-- a class with the digits and `-`
+pub decimal-over : (D : ℕ → Bool) → ((c : ℕ) → T (digit c) → T (D c)) → T (D 45) → (z : ℤ) → T (every D (decimal z))
+decimal-over D f m (pos n) = every-mono digit D f (digits n n []) (digits-digit n n [] tt)
+decimal-over D f m (negsuc n) =
+    and-in (D 45) (every D (digits (suc n) (suc n) [])) m (every-mono digit D f (digits (suc n) (suc n) []) (digits-digit (suc n) (suc n) [] tt))
+
 pub decimal-figure : (z : ℤ) → T (every figure (decimal z))
-decimal-figure (pos n) = every-mono digit figure (λ c h. or-left (digit c) (eqb c 45 || eqb c 63) h) (digits n n []) (digits-digit n n [] tt)
-decimal-figure (negsuc n) = every-mono digit figure (λ c h. or-left (digit c) (eqb c 45 || eqb c 63) h) (digits (suc n) (suc n) []) (digits-digit (suc n) (suc n) [] tt)
+decimal-figure z = decimal-over figure (λ c h. or-left (digit c) (eqb c 45 || eqb c 63) h) tt z
 
 -- ── trimming does nothing where nothing of the class stands ──
 abbrev pub non : (ℕ → Bool) → ℕ → Bool
@@ -121,17 +117,6 @@ back-past C [] s h = refl
 back-past C (c ∷ t) s h =
     ap (unless-last C c) (back-past C t s (and-right (non C c) (every (non C) t) h)) ∙ keep-same C c (t ++ less-trailing C s) (T-not-eq (C c) (and-left (non C c) (every (non C) t) h))
 
--- and all where all is of the class
-pub front-all : (C : ℕ → Bool) (t s : List ℕ) → T (every C t) → less-leading C (t ++ s) ≡ less-leading C s
-front-all C [] s h = refl
-front-all C (c ∷ t) s h =
-    ap (λ (k : Bool). if k then less-leading C (t ++ s) else c ∷ (t ++ s)) (is-true (C c) (and-left (C c) (every C t) h)) ∙ front-all C t s (and-right (C c) (every C t) h)
-
-pub back-all : (C : ℕ → Bool) (t : List ℕ) → T (every C t) → less-trailing C t ≡ []
-back-all C [] h = refl
-back-all C (c ∷ t) h =
-    ap (unless-last C c) (back-all C t (and-right (C c) (every C t) h)) ∙ ap (λ (k : Bool). if k then [] else c ∷ []) (is-true (C c) (and-left (C c) (every C t) h))
-
 pub visible-nonwhite : (c : ℕ) → T (visible c) → T (non white c)
 visible-nonwhite c h = let q = leb→le 33 c h in go (white c) (λ w. or-cases (leb 9 c && leb c 13) (eqb c 32) (λ d. let p = leb→le c 13 (and-right (leb 9 c) (leb c 13) d) in omega arith)
     (λ e. let p = eqb→eq c 32 e in omega arith) w)
@@ -139,16 +124,6 @@ visible-nonwhite c h = let q = leb→le 33 c h in go (white c) (λ w. or-cases (
     go : (k : Bool) → (T k → ⊥) → T (not k)
     go true f = absurd (f tt)
     go false f = tt
-
--- white space around a text goes
-pub trim-around : (w t w′ : List ℕ) → T (every white w) → T (every visible t) → T (not (vacant t)) → T (every white w′) → trim (w ++ (t ++ w′)) ≡ t
-trim-around w t w′ h v n h′ =
-    let k = every-mono visible (non white) visible-nonwhite t v in
-    ap (less-trailing white) (front-all white w (t ++ w′) h ∙ begun t k n) ∙ back-past white t w′ k ∙ ap (λ (l : List ℕ). t ++ l) (back-all white w′ h′) ∙ append-nil t
-  where
-    begun : (t : List ℕ) → T (every (non white) t) → T (not (vacant t)) → less-leading white (t ++ w′) ≡ t ++ w′
-    begun [] k n = absurd n
-    begun (c ∷ t) k n = ap (λ (b : Bool). if b then less-leading white (t ++ w′) else c ∷ (t ++ w′)) (T-not-eq (white c) (and-left (non white c) (every (non white) t) k))
 
 pub trim-none : (t : List ℕ) → T (every visible t) → trim t ≡ t
 trim-none t h =
@@ -181,8 +156,8 @@ decimal-visible z = every-mono figure visible figure-visible (decimal z) (decima
 
 pub numeral-decimal : (w : ℕ) (z : ℤ) → T (ranged w z) → numeral w (decimal z) ≡ some z
 numeral-decimal w (pos n) h =
-    numeral-digits w (digits n n []) (digits-digit n n [] tt) (digits-any n n)
+    numeral-digits w (digits n n []) (digits-digit n n [] tt) (digits-any n n [])
     ∙ ap (at-most (2 ^ (w - 1) - 1) pos) (digits-horner n n [] (le-refl n)) ∙ kept (2 ^ (w - 1) - 1) pos n h
 numeral-decimal w (negsuc n) h =
-    ap (at-most (2 ^ (w - 1)) minus) (number-some (digits (suc n) (suc n) []) (digits-any (suc n) (suc n)) ∙ digits-horner (suc n) (suc n) [] (le-refl (suc n)))
+    ap (at-most (2 ^ (w - 1)) minus) (number-some (digits (suc n) (suc n) []) (digits-any (suc n) (suc n) []) ∙ digits-horner (suc n) (suc n) [] (le-refl (suc n)))
     ∙ kept (2 ^ (w - 1)) minus (suc n) h
