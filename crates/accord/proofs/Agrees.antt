@@ -30,11 +30,11 @@ use Rattle.meaning.specs.Views as W
 use Rattle.meaning.specs.Ordinary as O
 use Rattle.meaning.specs.Ordinary.{parse}
 use Rattle.grammar.specs.Tests.{and-left, and-right}
-use Rattle.accord.proofs.Shape.{Shape, lit, run, alt, the, left, right}
+use Rattle.accord.proofs.Shape.{Shape, lit, alt, the, left, right}
 use Rattle.accord.proofs.Names.{table, name-word}
 use Rattle.accord.proofs.Lists.{exact}
-use Rattle.accord.proofs.Forms.{_▸_, _&_, say, num, dims-in, strs-in, entries-in, name-in, may-in, comma-in, comma-shape, strides-shape, body, body-shape}
-use Rattle.accord.proofs.Forms.{pad-in, pad-shape, intro-in, intro-shape, middle, end, no-travel, travel-of, map-of, sparse-of, Sight, inside}
+use Rattle.accord.proofs.Forms.{_▸_, _&_, say, dims-in, strs-in, entries-in, name-in, may-in, comma-in, comma-shape, strides-shape, body, body-shape}
+use Rattle.accord.proofs.Forms.{pad-in, pad-shape, intro-in, intro-shape, middle, end, no-travel, travel-of, map-of, sparse-of, Sight, tile-shape, inside}
 use Rattle.accord.proofs.Inner.{tile-plain, tile-pointer, strides-found, tensor-found, tensor-read}
 use Rattle.accord.proofs.Outer.{view-found, with, partition-read, gather-read, strided-read}
 use Rattle.accord.proofs.Hole as H
@@ -59,6 +59,9 @@ shown t = record {
 abbrev pub sure : Any → Shown
 sure a = record { type = a; note = record { a = 0; b = 0; c = 0; d = 0 } }
 
+abbrev attributed : Any → Any
+attributed a = any (a .kind) (a .element) (a .pointer) true (a .shape) (a .strides) (a .tile) (a .map) (a .traversal) (a .sparse) (a .padding)
+
 -- a clause that holds l, and adds to no count
 record Clean (c : Clause) (l : List ℤ) : Type 0 where
   holds : F.values c ≡ l
@@ -80,21 +83,11 @@ clean-strides : (st : Form.Strides) → Clean (strides-found st) (stridesOf st)
 clean-strides Form.Strides.absent = record { holds = refl; readable = refl; whole = refl }
 clean-strides (Form.Strides.given s c) = clean (map size (values c))
 
--- a mark changes the attribute and nothing else
 module _ (k : Kind) (e : Scalar) (p : Bool) {cs cr ct cm cu cz : Clause} {s r t m u z : List ℤ} (o : Padding)
     (hs : Clean cs s) (hr : Clean cr r) (ht : Clean ct t) (hm : Clean cm m) (hu : Clean cu u) (hz : Clean cz z) where
-  clean-made : (b : Bool) → shown (attach b (made k e p cs cr ct cm cu cz o)) ≡ sure (any k e p b s r t m u (getD z 0 (pos 0)) o)
-  unfolding shown made counts with-attribute
-  clean-made true = λ i. record {
-    type = any k e p true (hs .holds i) (hr .holds i) (ht .holds i) (hm .holds i) (hu .holds i) (getD (hz .holds i) 0 (pos 0)) o;
-    note = record {
-      a = hs .readable i + hr .readable i;
-      b = ht .readable i;
-      c = hm .readable i + hu .readable i + hz .readable i;
-      d = hr .whole i + hm .whole i + hu .whole i + hz .whole i;
-    };
-  }
-  clean-made false = λ i. record {
+  clean-plain : shown (made k e p cs cr ct cm cu cz o) ≡ sure (any k e p false s r t m u (getD z 0 (pos 0)) o)
+  unfolding shown made counts
+  clean-plain = λ i. record {
     type = any k e p false (hs .holds i) (hr .holds i) (ht .holds i) (hm .holds i) (hu .holds i) (getD (hz .holds i) 0 (pos 0)) o;
     note = record {
       a = hs .readable i + hr .readable i;
@@ -103,6 +96,12 @@ module _ (k : Kind) (e : Scalar) (p : Bool) {cs cr ct cm cu cz : Clause} {s r t 
       d = hr .whole i + hm .whole i + hu .whole i + hz .whole i;
     };
   }
+
+  -- a mark changes the attribute and nothing else
+  clean-made : (b : Bool) → shown (attach b (made k e p cs cr ct cm cu cz o)) ≡ sure (any k e p b s r t m u (getD z 0 (pos 0)) o)
+  unfolding shown made counts with-attribute
+  clean-made true = ap (λ (x : Shown). record { type = attributed (x .type); note = x .note }) clean-plain
+  clean-made false = clean-plain
 
 -- ── what is shown of it ──
 plain-shown : (k : Kind) (e : Scalar) (m : Bool) → shown (attach m (plain k e)) ≡ sure (any k e false m [] [] [] [] [] (pos 0) Absent)
@@ -145,7 +144,7 @@ body-hole : (t : Form.Tensor) → Hole body-shape (lit []) (body t)
 body-hole t = dims-in (t .shape) ◂ name-in (t .name) ◂ strides-hole (t .strides)
 
 abbrev before-mark : Shape
-before-mark = lit (bytes "tile=(") ▸ run num ▸ lit (bytes ")") ▸ comma-shape ▸ middle ▸ pad-shape ▸ intro-shape ▸ lit (bytes "tensor_view<") ▸ body-shape
+before-mark = tile-shape (pad-shape ▸ intro-shape ▸ lit (bytes "tensor_view<") ▸ body-shape)
 
 view-hole : (w : Sight) → Hole before-mark (lit [] ▸ lit (bytes ">") ▸ comma-shape ▸ end) (inside w)
 view-hole w = say (bytes "tile=(") ◂ entries-in (w .view .tile) ◂ say (bytes ")") ◂ comma-in (w .view .space) ◂ w .middle .is ◂ pad-in (w .view .padding)

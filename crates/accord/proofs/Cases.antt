@@ -11,8 +11,8 @@ use Rattle.meaning.specs.declared.Padding.the-variants.{Absent, Zero, NegZero, 
 use Rattle.meaning.specs.Strict as Form
 use Rattle.meaning.specs.Strict.{_⊕_, comma, pads, entries}
 use Rattle.meaning.specs.Meant.{padsOf}
-use Rattle.accord.proofs.Shape.{Shape, In, lit, run, seq, the, both, free, absent, clears, first}
-use Rattle.accord.proofs.Forms.{_▸_, _&_, say, num, entries-in, comma-shape, comma-in, body, intro-shape, middle, Sight, whole, view-shape, whole-in}
+use Rattle.accord.proofs.Shape.{Shape, In, lit, seq, the, both, free, absent, clears, first}
+use Rattle.accord.proofs.Forms.{_▸_, _&_, say, entries-in, comma-shape, comma-in, body, intro-shape, Sight, whole, tile-shape, view-shape, whole-in}
 
 -- a text w that begins with a text of a shape, and goes on with s
 pub record Ahead (sh : Shape) (w s : List ℕ) : Type 0 where
@@ -30,11 +30,18 @@ _⊳_ {u = u} {s = s} i r = record { text = u ++ r .text; is = both i (r .is); s
 pub first-at : (P : List ℕ) {sh : Shape} {w : List ℕ} (s : List ℕ) (a : Ahead sh w (P ++ s)) → T (clears P P sh) → cut P w ≡ at (a .text) s
 first-at P s a h = rw (a .split) at (first P (a .is) h s)
 
+-- behind the tile and the traversal
+abbrev pub tile-text : Sight → List ℕ → List ℕ
+tile-text w s = bytes "tile=(" ⊕ entries (w .view .tile) ⊕ bytes ")" ⊕ comma (w .view .space) ⊕ w .middle .text ⊕ s
+
+abbrev pub tiled : (w : Sight) {a : Shape} {u s : List ℕ} → Ahead a u s → Ahead (tile-shape a) (tile-text w u) s
+tiled w r = say (bytes "tile=(") ⊳ entries-in (w .view .tile) ⊳ say (bytes ")") ⊳ comma-in (w .view .space) ⊳ w .middle .is ⊳ r
+
 -- ── padding ──
-pub hasn't : (P : List ℕ) {sh : Shape} {t : List ℕ} → In sh t → T (free P sh) → occurs P t ≡ false
+hasn't : (P : List ℕ) {sh : Shape} {t : List ℕ} → In sh t → T (free P sh) → occurs P t ≡ false
 hasn't P i h = ap found (absent P i h)
 
-pub has-at : (P : List ℕ) {sh : Shape} {w : List ℕ} (s : List ℕ) → Ahead sh w (P ++ s) → T (clears P P sh) → occurs P w ≡ true
+has-at : (P : List ℕ) {sh : Shape} {w : List ℕ} (s : List ℕ) → Ahead sh w (P ++ s) → T (clears P P sh) → occurs P w ≡ true
 has-at P s a h = ap found (first-at P s a h)
 
 abbrev fixed : List ℕ → Bool → List ℕ
@@ -48,20 +55,15 @@ and-false true = refl
 and-false false = refl
 
 module _ (w : Sight) {ti : List ℕ} (ii : In intro-shape ti) where
-  -- what stands before the padding, and what follows it
-  abbrev ahead : List ℕ → List ℕ
-  ahead s = bytes "tile=(" ⊕ entries (w .view .tile) ⊕ bytes ")" ⊕ comma (w .view .space) ⊕ w .middle .text ⊕ s
-
+  -- what follows the padding
   abbrev onward : List ℕ
   onward = ti ⊕ bytes "tensor_view<" ⊕ body (w .view .tensor) [] ⊕ bytes ">" ⊕ comma (w .view .space′) ⊕ w .end .text
 
-  value-there : (s : List ℕ) → occurs (bytes "padding_value") (ahead (bytes "padding_value" ⊕ s)) ≡ true
-  value-there s = has-at (bytes "padding_value") s (say (bytes "tile=(") ⊳ entries-in (w .view .tile) ⊳ say (bytes ")") ⊳ comma-in (w .view .space) ⊳ last (w .middle .is)) tt
+  value-there : (s : List ℕ) → occurs (bytes "padding_value") (tile-text w (bytes "padding_value" ⊕ s)) ≡ true
+  value-there s = has-at (bytes "padding_value") s (tiled w (last (say []))) tt
 
-  word-there : (P : List ℕ) → T (clears P P (lit (bytes "tile=(") ▸ run num ▸ lit (bytes ")") ▸ comma-shape ▸ middle ▸ lit (bytes "padding_value="))) → (s : List ℕ) →
-      occurs P (ahead (bytes "padding_value=" ⊕ (P ⊕ s))) ≡ true
-  word-there P h s =
-      has-at P s (say (bytes "tile=(") ⊳ entries-in (w .view .tile) ⊳ say (bytes ")") ⊳ comma-in (w .view .space) ⊳ w .middle .is ⊳ last (say (bytes "padding_value="))) h
+  word-there : (P : List ℕ) → T (clears P P (tile-shape (lit (bytes "padding_value=")))) → (s : List ℕ) → occurs P (tile-text w (bytes "padding_value=" ⊕ (P ⊕ s))) ≡ true
+  word-there P h s = has-at P s (tiled w (last (say (bytes "padding_value=")))) h
 
   hasnt : (P : List ℕ) (l : List ℕ) (s : Bool) → T (free P (view-shape (lit (bytes "padding_value=") ▸ lit l ▸ comma-shape) intro-shape)) →
       occurs P (whole w (fixed l s) ti []) ≡ false

@@ -141,9 +141,12 @@ pub record Sight : Type 0 where
 abbrev pub whole : Sight → List ℕ → List ℕ → List ℕ → List ℕ
 whole w p i r = Form.inner (entries (w .view .tile)) (comma (w .view .space)) (w .middle .text) p i (body (w .view .tensor) r) (comma (w .view .space′)) (w .end .text)
 
+-- the tile and the traversal, before a shape
+abbrev pub tile-shape : Shape → Shape
+tile-shape a = lit (bytes "tile=(") ▸ run num ▸ lit (bytes ")") ▸ comma-shape ▸ middle ▸ a
+
 abbrev pub view-shape : Shape → Shape → Shape
-view-shape p i = lit (bytes "tile=(") ▸ run num ▸ lit (bytes ")") ▸ comma-shape ▸ middle ▸ p ▸ i ▸ lit (bytes "tensor_view<") ▸ body-shape
-    ▸ lit (bytes ">") ▸ comma-shape ▸ end
+view-shape p i = tile-shape (p ▸ i ▸ lit (bytes "tensor_view<") ▸ body-shape ▸ lit (bytes ">") ▸ comma-shape ▸ end)
 
 pub whole-in : {p i : Shape} {tp ti : List ℕ} (w : Sight) → In p tp → In i ti → In (view-shape p i) (whole w tp ti [])
 whole-in w ip ii = the & entries-in (w .view .tile) & the & comma-in (w .view .space) & w .middle .is & ip & ii & the & body-in (w .view .tensor)

@@ -18,14 +18,14 @@ use Rattle.meaning.specs.Tile.{Tensor, tensor}
 use Rattle.meaning.specs.Views as W
 use Rattle.meaning.specs.declared.Kind.the-variants as K
 use Rattle.grammar.specs.Tests.{every, and-left, and-right}
-use Rattle.accord.proofs.Shape.{Shape, In, lit, run, absent, first}
+use Rattle.accord.proofs.Shape.{Shape, In, lit, absent, first}
 use Rattle.accord.proofs.Bracket.{apart, enclosed-by}
 use Rattle.accord.proofs.Num.{figure, decimal-figure}
 use Rattle.accord.proofs.Lists.{exact, entries-parts, list-read, small-decimal}
-use Rattle.accord.proofs.Forms.{_▸_, say, num, entries-in, list-in, comma-in, comma-shape, body, body-in, body-shape, pad-shape, pad-in, intro-in, intro-shape}
-use Rattle.accord.proofs.Forms.{middle, end, Of, no-travel, travel-of, map-of, sparse-of, Sight, whole, whole-in, inside}
+use Rattle.accord.proofs.Forms.{_▸_, say, entries-in, list-in, comma-in, comma-shape, body, body-in, body-shape, pad-shape, pad-in, intro-in, intro-shape}
+use Rattle.accord.proofs.Forms.{middle, end, Of, no-travel, travel-of, map-of, sparse-of, Sight, whole, whole-in, tile-shape, inside}
 use Rattle.accord.proofs.Inner.{tensor-found, tensor-read}
-use Rattle.accord.proofs.Cases.{Ahead, first-at, last, _⊳_, pad-reads}
+use Rattle.accord.proofs.Cases.{Ahead, first-at, last, _⊳_, tiled, pad-reads}
 
 -- ── where the tensor view opens ──
 module _ (w : Sight) where
@@ -44,12 +44,10 @@ module _ (w : Sight) where
       (W._or_ (first-at (bytes "tensor_view<") beyond (comma-in (w .view .space) ⊳ w .middle .is ⊳ last ip) tt j) none))
   start Form.prefixed {tp} ip = λ j.
       W._or_ (absent (bytes "tensor_view=!cuda_tile.tensor_view<") (whole-in w ip (say (bytes "!cuda_tile."))) tt j)
-      (W._or_ (first-at (bytes "!cuda_tile.tensor_view<") beyond
-      (say (bytes "tile=(") ⊳ entries-in (w .view .tile) ⊳ say (bytes ")") ⊳ comma-in (w .view .space) ⊳ w .middle .is ⊳ last ip) tt j)
+      (W._or_ (first-at (bytes "!cuda_tile.tensor_view<") beyond (tiled w (last ip)) tt j)
       (W._or_ (cut (bytes "tensor_view<") (onward tp (bytes "!cuda_tile."))) none))
   start Form.named {tp} ip = λ j.
-      W._or_ (first-at (bytes "tensor_view=!cuda_tile.tensor_view<") beyond
-      (say (bytes "tile=(") ⊳ entries-in (w .view .tile) ⊳ say (bytes ")") ⊳ comma-in (w .view .space) ⊳ w .middle .is ⊳ last ip) tt j)
+      W._or_ (first-at (bytes "tensor_view=!cuda_tile.tensor_view<") beyond (tiled w (last ip)) tt j)
       (W._or_ (cut (bytes "!cuda_tile.tensor_view<") (whole w tp (Form.introText Form.named) []))
       (W._or_ (cut (bytes "tensor_view<") (onward tp (Form.introText Form.named))) none))
 
@@ -85,12 +83,10 @@ module _ (w : Sight) (h : T (viewOk (w .view))) where
 -- ── the lists ──
 -- what stands before the last clause
 abbrev front-shape : Shape
-front-shape = lit (bytes "tile=(") ▸ run num ▸ lit (bytes ")") ▸ comma-shape ▸ middle ▸ pad-shape ▸ intro-shape ▸ lit (bytes "tensor_view<") ▸ body-shape
-    ▸ lit (bytes ">") ▸ comma-shape
+front-shape = tile-shape (pad-shape ▸ intro-shape ▸ lit (bytes "tensor_view<") ▸ body-shape ▸ lit (bytes ">") ▸ comma-shape)
 
 clause-ahead : (w : Sight) → Ahead front-shape (inside w []) (w .end .text)
-clause-ahead w = say (bytes "tile=(") ⊳ entries-in (w .view .tile) ⊳ say (bytes ")") ⊳ comma-in (w .view .space) ⊳ w .middle .is ⊳ pad-in (w .view .padding)
-    ⊳ intro-in (w .view .intro) ⊳ say (bytes "tensor_view<") ⊳ body-in (w .view .tensor) ⊳ say (bytes ">") ⊳ last (comma-in (w .view .space′))
+clause-ahead w = tiled w (pad-in (w .view .padding) ⊳ intro-in (w .view .intro) ⊳ say (bytes "tensor_view<") ⊳ body-in (w .view .tensor) ⊳ say (bytes ">") ⊳ last (comma-in (w .view .space′)))
 
 -- what is made of them
 given-read : (c : Commas ℤ) → T (eachOf in32 (values c)) → W.entries (commas decimal c) ≡ stands (exact (values c))
