@@ -110,7 +110,7 @@ abbrev pub attach : Bool → Found → Found
 attach true = with-attribute
 attach false = λ r. r
 
-pub attach-none : (o : Option Found) → o ≡ each (attach false) o
+attach-none : (o : Option Found) → o ≡ each (attach false) o
 attach-none none = refl
 attach-none (some r) = refl
 

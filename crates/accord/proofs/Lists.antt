@@ -59,7 +59,7 @@ in32-ranged : (z : ℤ) → T (in32 z) → T (ranged 32 z)
 in32-ranged (pos n) h = le→leb n (2 ^ 31 - 1) (let q = ltb→lt n (2 ^ 31) h in omega arith)
 in32-ranged (negsuc n) h = le→leb (suc n) (2 ^ 31) (let q = ltb→lt n (2 ^ 31) h in omega arith)
 
-pub dimension-dim : (d : Dim) → T (in64 d) → dimension (dim d) ≡ read (size d)
+dimension-dim : (d : Dim) → T (in64 d) → dimension (dim d) ≡ read (size d)
 unfolding dimension DYNAMIC
 dimension-dim dynamic h = refl
 dimension-dim (known z) h =
@@ -72,12 +72,12 @@ unfolding small
 small-decimal d z h =
     ap (λ (t : List ℕ). read-or d (numeral 32 t)) (trim-none (decimal z) (decimal-visible z)) ∙ ap (read-or d) (numeral-decimal 32 z (in32-ranged z h))
 
-pub dimension-gap : (s : Bool) (d : Dim) → T (in64 d) → dimension (may s (bytes " ") ++ dim d) ≡ read (size d)
+dimension-gap : (s : Bool) (d : Dim) → T (in64 d) → dimension (may s (bytes " ") ++ dim d) ≡ read (size d)
 unfolding dimension
 dimension-gap true d h = dimension-dim d h
 dimension-gap false d h = dimension-dim d h
 
-pub small-gap : (d : ℤ) (s : Bool) (z : ℤ) → T (in32 z) → small d (may s (bytes " ") ++ decimal z) ≡ read z
+small-gap : (d : ℤ) (s : Bool) (z : ℤ) → T (in32 z) → small d (may s (bytes " ") ++ decimal z) ≡ read z
 unfolding small
 small-gap d true z h = small-decimal d z h
 small-gap d false z h = small-decimal d z h
@@ -107,7 +107,7 @@ module _ {A : Type 0} (r : List ℕ → Entry) (f : A → List ℕ) (g : A → �
       ∙ ap (λ (t : List ℕ). read v ∷ map r (split 44 t)) (sym (append-assoc (may (n .space) (bytes " ")) (f (n .entry)) (rest f ns)))
       ∙ ap (λ (l : List Entry). read v ∷ l) ih
 
-  pub commas-read : (c : Commas A) → T (eachOf k (values c)) → map r (split 44 (commas f c)) ≡ exact (map g (values c))
+  commas-read : (c : Commas A) → T (eachOf k (values c)) → map r (split 44 (commas f c)) ≡ exact (map g (values c))
   commas-read c o = rest-read (c .tail) (f (c .head)) (g (c .head)) (gap-class false (f (c .head)) (cl (c .head)))
       (rd false (c .head) (and-left (k (c .head)) _ o)) (and-right (k (c .head)) _ o)
 
@@ -165,11 +165,11 @@ xrest-split : (zs : List ℤ) (z : ℤ) → split 120 (decimal z ++ xrest zs) �
 xrest-split [] z = ap (split 120) (append-nil (decimal z)) ∙ split-none 120 (decimal z) (figures 120 tt (decimal z) (decimal-figure z))
 xrest-split (y ∷ ys) z = split-at 120 (decimal z) (decimal y ++ xrest ys) (figures 120 tt (decimal z) (decimal-figure z)) ∙ ap (λ (l : List (List ℕ)). decimal z ∷ l) (xrest-split ys y)
 
-pub map-id {ℓ} : {A : Type ℓ} (l : List A) → map (λ (z : A). z) l ≡ l
+map-id {ℓ} : {A : Type ℓ} (l : List A) → map (λ (z : A). z) l ≡ l
 map-id [] = refl
 map-id (x ∷ l) = ap (λ k. x ∷ k) (map-id l)
 
-abbrev pub parter : List ℕ → ℕ
+abbrev parter : List ℕ → ℕ
 parter t = if occurs (bytes "x") t then 120 else 44
 
 x-none : (t : List ℕ) → T (every (non (eqb 120)) t) → parter t ≡ 44

@@ -24,7 +24,7 @@ pub name-word : (n : Name) → scalar-name (word n) ≡ some (scalarOf n)
 unfolding scalar-name
 name-word n = table scalar-name some words scalars refl (n .index) (ltb→lt (n .index) 22 (n .within))
 
-pub each-class : (C : ℕ → Bool) (ws : List (List ℕ)) → T (every (every C) ws) → (i : ℕ) → T (every C (nth [] ws i))
+each-class : (C : ℕ → Bool) (ws : List (List ℕ)) → T (every (every C) ws) → (i : ℕ) → T (every C (nth [] ws i))
 each-class C [] h i = tt
 each-class C (w ∷ ws) h zero = and-left (every C w) (every (every C) ws) h
 each-class C (w ∷ ws) h (suc i) = each-class C ws (and-right (every C w) (every (every C) ws) h) i

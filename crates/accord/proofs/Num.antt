@@ -28,7 +28,7 @@ horner-step a c s h = ap (λ (k : Bool). if k then number-from (a * 10 + (c - 48
 horner-digit : (a d n : ℕ) (s : List ℕ) → d < 10 → a * 10 + d ≡ n → number-from a ((48 + d) ∷ s) ≡ number-from n s
 horner-digit a d n s h e = horner-step a (48 + d) s (digit-ok d h) ∙ ap (λ (z : ℕ). number-from z s) (omega arith)
 
-pub digits-horner : (f n : ℕ) (ds : List ℕ) → n ≤ f → number-from 0 (digits f n ds) ≡ number-from n ds
+digits-horner : (f n : ℕ) (ds : List ℕ) → n ≤ f → number-from 0 (digits f n ds) ≡ number-from n ds
 digits-horner zero n ds h = let e : n ≡ 0 = omega arith in rw e
 digits-horner (suc f) n ds h = go (ltb n 10) (ltb→lt n 10) (nltb→le n 10) (λ q. digits-horner f (n / 10) ((48 + n % 10) ∷ ds) (small n f h q))
   where
@@ -46,7 +46,7 @@ pub every-++ : (C : ℕ → Bool) (a b : List ℕ) → T (every C a) → T (ever
 every-++ C [] b h k = k
 every-++ C (c ∷ a) b h k = and-in (C c) (every C (a ++ b)) (and-left (C c) (every C a) h) (every-++ C a b (and-right (C c) (every C a) h) k)
 
-pub digits-digit : (f n : ℕ) (ds : List ℕ) → T (every digit ds) → T (every digit (digits f n ds))
+digits-digit : (f n : ℕ) (ds : List ℕ) → T (every digit ds) → T (every digit (digits f n ds))
 digits-digit zero n ds h = and-in (digit (48 + n % 10)) (every digit ds) (digit-ok (n % 10) (mod-lt n (zero-lt-suc 9))) h
 digits-digit (suc f) n ds h = go (ltb n 10) (ltb→lt n 10) (digits-digit f (n / 10) ((48 + n % 10) ∷ ds)
     (and-in (digit (48 + n % 10)) (every digit ds) (digit-ok (n % 10) (mod-lt n (zero-lt-suc 9))) h))
@@ -76,7 +76,7 @@ pub or-left : (a b : Bool) → T a → T (a || b)
 or-left true b h = tt
 or-left false b h = absurd h
 
-pub or-cases : {X : Type 0} (a b : Bool) → (T a → X) → (T b → X) → T (a || b) → X
+or-cases : {X : Type 0} (a b : Bool) → (T a → X) → (T b → X) → T (a || b) → X
 or-cases true b f g h = f tt
 or-cases false b f g h = g h
 
@@ -103,11 +103,11 @@ front-none C [] h = refl
 front-none C (c ∷ t) h =
     ap (λ (k : Bool). if k then less-leading C t else c ∷ t) (T-not-eq (C c) (and-left (non C c) (every (non C) t) h))
 
-pub keep-same : (C : ℕ → Bool) (c : ℕ) (t : List ℕ) → C c ≡ false → unless-last C c t ≡ c ∷ t
+keep-same : (C : ℕ → Bool) (c : ℕ) (t : List ℕ) → C c ≡ false → unless-last C c t ≡ c ∷ t
 keep-same C c [] e = ap (λ (k : Bool). if k then [] else c ∷ []) e
 keep-same C c (x ∷ t) e = refl
 
-pub back-none : (C : ℕ → Bool) (t : List ℕ) → T (every (non C) t) → less-trailing C t ≡ t
+back-none : (C : ℕ → Bool) (t : List ℕ) → T (every (non C) t) → less-trailing C t ≡ t
 back-none C [] h = refl
 back-none C (c ∷ t) h =
     ap (unless-last C c) (back-none C t (and-right (non C c) (every (non C) t) h)) ∙ keep-same C c t (T-not-eq (C c) (and-left (non C c) (every (non C) t) h))
@@ -117,7 +117,7 @@ back-past C [] s h = refl
 back-past C (c ∷ t) s h =
     ap (unless-last C c) (back-past C t s (and-right (non C c) (every (non C) t) h)) ∙ keep-same C c (t ++ less-trailing C s) (T-not-eq (C c) (and-left (non C c) (every (non C) t) h))
 
-pub visible-nonwhite : (c : ℕ) → T (visible c) → T (non white c)
+visible-nonwhite : (c : ℕ) → T (visible c) → T (non white c)
 visible-nonwhite c h = let q = leb→le 33 c h in go (white c) (λ w. or-cases (leb 9 c && leb c 13) (eqb c 32) (λ d. let p = leb→le c 13 (and-right (leb 9 c) (leb c 13) d) in omega arith)
     (λ e. let p = eqb→eq c 32 e in omega arith) w)
   where
