@@ -1,13 +1,13 @@
--- Every byte of a strict text is from 32 to 127, part by part.
+-- Every byte of a strict text is below 128, part by part.
 use Prim.Native.Nat.{ℕ, zero, suc, _+_, _/_, _%_, _<_}
 use native.Mathlib.Nat.{mod-lt, zero-lt-suc}
 use native.Mathlib.Omega.{arith}
-use mathlib.Core.Bool.{Bool, true, false, _&&_}
+use mathlib.Core.Bool.{Bool, true, false}
 use mathlib.Core.List.{List, [], _∷_, _++_}
 use mathlib.Core.Option.{none}
 use mathlib.Core.Path.{_≡_, refl, sym, subst}
 use borrow.Author.Tests.{lt-leb, ltb-true}
-use lib.Dec.{T, ltb, leb, lt→ltb, ltb→lt, le→leb}
+use lib.Dec.{T, ltb, lt→ltb, ltb→lt}
 use lib.IntN.{ℤ, pos, negsuc}
 use Rattle.lexis.specs.Text.{Text, bytes}
 use Rattle.meaning.specs.Decimal.{digits, decimal, Dim, dynamic, known, dim}
@@ -19,13 +19,13 @@ use Rattle.meaning.specs.Strict.{prefixed, named, introText, View, viewText, ma
 use Rattle.meaning.specs.Meant.{Any, Strict}
 use Rattle.grammar.specs.Tests.{every, and-left, and-right, and-in}
 
--- ── bytes from 32 to 127 ──
+-- ── bytes below 128 ──
 
-abbrev printed : ℕ → Bool
-printed b = leb 32 b && ltb b 128
+abbrev low : ℕ → Bool
+low b = ltb b 128
 
 abbrev plain : Text → Bool
-plain = every printed
+plain = every low
 
 record Plain (t : Text) : Type 0 where
   within : T (plain t)
@@ -36,7 +36,7 @@ _also_ {a} {b} p q = record { within = by a (p .within) }
   where
     by : (a : Text) → T (plain a) → T (plain (a ++ b))
     by [] h = q .within
-    by (c ∷ a) h = and-in (printed c) (plain (a ++ b)) (and-left (printed c) (plain a) h) (by a (and-right (printed c) (plain a) h))
+    by (c ∷ a) h = and-in (low c) (plain (a ++ b)) (and-left (low c) (plain a) h) (by a (and-right (low c) (plain a) h))
 
 quoted : (t : Text) → T (plain t) → Plain t
 quoted t h = record { within = h }
@@ -52,14 +52,13 @@ listed (t ∷ l) (suc i) h = listed l i (and-right (plain t) (every plain l) h)
 none-high : (k : ℕ) (t : Text) → T (plain t) → high-from k t ≡ none
 none-high k [] h = refl
 none-high k (b ∷ t) h =
-    let e = lt-leb 128 b (ltb→lt b 128 (and-right (leb 32 b) (ltb b 128) (and-left (printed b) (plain t) h))) in
-    rw e (none-high (suc k) t (and-right (printed b) (plain t) h))
+    let e = lt-leb 128 b (ltb→lt b 128 (and-left (low b) (plain t) h)) in
+    rw e (none-high (suc k) t (and-right (low b) (plain t) h))
 
 -- ── numbers ──
 
 digit-plain : (d : ℕ) (t : Text) → d < 10 → T (plain t) → T (plain ((48 + d) ∷ t))
-digit-plain d t k h =
-    and-in (printed (48 + d)) (plain t) (and-in (leb 32 (48 + d)) (ltb (48 + d) 128) (le→leb 32 (48 + d) (omega arith)) (lt→ltb (48 + d) 128 (omega arith))) h
+digit-plain d t k h = and-in (low (48 + d)) (plain t) (lt→ltb (48 + d) 128 (omega arith)) h
 
 digits-plain : (f n : ℕ) (t : Text) → T (plain t) → T (plain (digits f n t))
 digits-plain zero n t h = digit-plain (n % 10) t (mod-lt n (zero-lt-suc 9)) h

@@ -1,2 +1,3 @@
--- What lexis's contracts say: texts.
+-- What lexis's contracts say: texts; and, of private helpers, parts.
 pub mod Text
+pub mod Parts

@@ -1,7 +1,7 @@
 // Seeking and trimming.
 use super::blocks::seek;
 ghost use mathlib.Core.Path.{_≡_};
-ghost use Prim.Native.Nat.{_+_, _≤_, _<_};
+ghost use Prim.Native.Nat.{_≤_, _<_};
 ghost use lib.Dec.{eqb};
 ghost use lib.ListN.{drop, length};
 ghost use Rattle.lexis.specs.Text.{same, begins, cut, place, spot, occurs, until};

@@ -10,9 +10,9 @@ use borrow.Author.Tests.{eqb-true, eqb-false, ltb-true, leb-true, leb-false, ne-
 use lib.Dec.{eqb, leb, ltb}
 use lib.IntN.{pos}
 use lib.ListN.{length, take, drop, getD, drop-of-length-le, List·getD-eq-default}
-use Rattle.lexis.specs.Text.{Text, if_then_else_, until, less-trailing, unless-last, white, ink, trim}
+use Rattle.lexis.specs.Text.{Text, if_then_else_, until, less-trailing, unless-last, white, trim}
 use Rattle.numerals.specs.Numeral.{digit, number-from, number, at-most, minus, numeral}
-use Rattle.numerals.specs.Parts.{apart, odd, Running}
+use Rattle.numerals.specs.Parts.{ink, apart, odd, Running}
 use Rattle.lexis.proofs.Lists.{view}
 use Rattle.lexis.proofs.Seeking.{never, until-step, until-stop, until-here, until-take}
 

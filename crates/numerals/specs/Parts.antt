@@ -39,6 +39,10 @@ sized most (b ∷ s) =
 
 -- ── parts of a list ──
 
+-- a byte that isn't white
+abbrev pub ink : ℕ → Bool
+ink b = not (white b)
+
 -- a comma, or past the digits
 abbrev pub apart : ℕ → Bool
 apart x = eqb x (code ",") || leb (suc (code "9")) x

@@ -19,12 +19,12 @@ use Rattle.strict.proofs.Cursors.{valued-past, valued-off, place-past, 
 use Rattle.strict.proofs.Numbers.{view}
 use Rattle.strict.proofs.Items.{goes, Parts}
 
-pub pour : (l : Row) (z : ℤ) (p : Answer (List ℤ)) → mapped (pushes l) (mapped (more z) p) ≡ mapped (pushes (pushed l z)) p
+pour : (l : Row) (z : ℤ) (p : Answer (List ℤ)) → mapped (pushes l) (mapped (more z) p) ≡ mapped (pushes (pushed l z)) p
 pour l z (got zs x) = refl
 pour l z (stuck x) = refl
 
 -- an entry stored
-pub stored : {x : List ℤ} (out : List ℤ) (n : ℕ) {v u : ℤ} → x ≡ set out n v → v ≡ u → row x (n + 1) ≡ pushed (row out n) u
+stored : {x : List ℤ} (out : List ℤ) (n : ℕ) {v u : ℤ} → x ≡ set out n v → v ≡ u → row x (n + 1) ≡ pushed (row out n) u
 stored out n e k = ap (λ (z : List ℤ). row z (n + 1)) (e ∙ ap (set out n) k)
 
 -- read up to i: the list from the start is what was read, then the list from here

@@ -34,7 +34,7 @@ module _ (L n : ℕ) where
   pub grow-end : (s : List ℕ) (i : ℕ) → length s ≤ i → N.grow L n (drop i s) ≡ got n (drop i s)
   grow-end s i h = rw (drop-of-length-le s h)
 
-  pub grow-off : (s : List ℕ) (i : ℕ) → i < length s → (T (digit (getD s i 0) && ltb (n * 10 + (getD s i 0 - 48)) L) → ⊥) → N.grow L n (drop i s) ≡ got n (drop i s)
+  grow-off : (s : List ℕ) (i : ℕ) → i < length s → (T (digit (getD s i 0) && ltb (n * 10 + (getD s i 0 - 48)) L) → ⊥) → N.grow L n (drop i s) ≡ got n (drop i s)
   grow-off s i h k = rw (view s i h) (ap (goes (getD s i 0) (drop (i + 1) s)) (T-not-eq (digit (getD s i 0) && ltb (n * 10 + (getD s i 0 - 48)) L) (not-T (digit (getD s i 0) && ltb (n * 10 + (getD s i 0 - 48)) L) k)))
 
   pub grow-on : (s : List ℕ) (i : ℕ) → i < length s → 48 ≤ getD s i 0 → getD s i 0 ≤ 57 → n * 10 + (getD s i 0 - 48) < L → N.grow L n (drop i s) ≡ N.grow L (n * 10 + (getD s i 0 - 48)) (drop (i + 1) s)
