@@ -1,11 +1,12 @@
 -- What the ordinary reading's searches meet in strict forms: texts ahead of a pattern, and the padding.
 use Prim.Native.Nat.{ℕ, zero, suc, _<_}
-use mathlib.Core.Bool.{Bool, true, false, _&&_}
+use mathlib.Core.Bool.{Bool, true, false}
 use mathlib.Core.List.{List, [], _++_, append-assoc}
 use mathlib.Core.Path.{_≡_, refl, ap, _∙_}
 use lib.Dec.{T, ltb, ltb→lt}
 use native.Mathlib.Omega.{arith}
 use Rattle.lexis.specs.Text.{bytes, cut, at, found, occurs}
+use Rattle.lexis.proofs.Seeking.{never}
 use Rattle.meaning.specs.Views.{padding}
 use Rattle.meaning.specs.declared.Padding.the-variants.{Absent, Zero, NegZero, Nan, PosInf, NegInf}
 use Rattle.meaning.specs.Strict as Form
@@ -50,10 +51,6 @@ fixed l s = bytes "padding_value=" ⊕ l ⊕ comma s
 fixed-in : (l : List ℕ) (s : Bool) → In (lit (bytes "padding_value=") ▸ lit l ▸ comma-shape) (fixed l s)
 fixed-in l s = the & the & comma-in s
 
-and-false : (a : Bool) → a && false ≡ false
-and-false true = refl
-and-false false = refl
-
 module _ (w : Sight) {ti : List ℕ} (ii : In intro-shape ti) where
   -- what follows the padding
   abbrev onward : List ℕ
@@ -79,7 +76,7 @@ module _ (w : Sight) {ti : List ℕ} (ii : In intro-shape ti) where
 
   pad-neg-zero : (s : Bool) → padding (whole w (fixed (bytes "neg_zero") s) ti []) ≡ NegZero
   unfolding padding
-  pad-neg-zero s = rw (value-there (bytes "=neg_zero" ⊕ comma s ++ onward), word-there (bytes "neg_zero") tt (comma s ++ onward), and-false)
+  pad-neg-zero s = rw (value-there (bytes "=neg_zero" ⊕ comma s ++ onward), word-there (bytes "neg_zero") tt (comma s ++ onward), never)
 
   pad-nan : (s : Bool) → padding (whole w (fixed (bytes "nan") s) ti []) ≡ Nan
   unfolding padding

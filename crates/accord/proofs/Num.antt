@@ -11,7 +11,7 @@ use lib.IntN.{ℤ, pos, negsuc}
 use Rattle.lexis.specs.Text.{white, trim, less-leading, less-trailing, unless-last, if_then_else_}
 use Rattle.numerals.specs.Numeral.{digit, number-from, number, at-most, minus, numeral}
 use Rattle.meaning.specs.Decimal.{digits, decimal}
-use Rattle.grammar.specs.Tests.{every, and-left, and-right, and-in, is-true, T-not-eq}
+use Rattle.grammar.specs.Tests.{every, and-left, and-right, and-in, or-left, or-cases, is-true, T-not-eq}
 use Rattle.grammar.specs.Digits.{small}
 use Rattle.accord.proofs.Bracket.{apart}
 
@@ -71,14 +71,6 @@ figure c = digit c || (eqb c 45 || eqb c 63)
 
 abbrev pub visible : ℕ → Bool
 visible c = ltb 32 c
-
-pub or-left : (a b : Bool) → T a → T (a || b)
-or-left true b h = tt
-or-left false b h = absurd h
-
-or-cases : {X : Type 0} (a b : Bool) → (T a → X) → (T b → X) → T (a || b) → X
-or-cases true b f g h = f tt
-or-cases false b f g h = g h
 
 pub figure-visible : (c : ℕ) → T (figure c) → T (visible c)
 figure-visible c h = or-cases (digit c) (eqb c 45 || eqb c 63)

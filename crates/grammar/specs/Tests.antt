@@ -1,5 +1,5 @@
--- Computed tests: both, each of a list, true and false.
-use mathlib.Core.Bool.{Bool, true, false, _&&_, not}
+-- Computed tests: both, one of two, each of a list, true and false.
+use mathlib.Core.Bool.{Bool, true, false, _&&_, _||_, not}
 use mathlib.Core.List.{List, [], _∷_}
 use mathlib.Core.Path.{_≡_, refl}
 use lib.Dec.{T}
@@ -19,6 +19,14 @@ and-right false b t = absurd t
 pub and-in : (a b : Bool) → T a → T b → T (a && b)
 and-in true b h k = k
 and-in false b h k = absurd h
+
+pub or-left : (a b : Bool) → T a → T (a || b)
+or-left true b h = tt
+or-left false b h = absurd h
+
+pub or-cases : {X : Type 0} (a b : Bool) → (T a → X) → (T b → X) → T (a || b) → X
+or-cases true b f g h = f tt
+or-cases false b f g h = g h
 
 pub is-true : (k : Bool) → T k → k ≡ true
 is-true true h = refl

@@ -12,7 +12,7 @@ use lib.IntN.{pos}
 use lib.ListN.{length, take, drop, getD, drop-of-length-le, List·getD-eq-default}
 use Rattle.lexis.specs.Text.{Text, if_then_else_, until, less-trailing, unless-last, white, trim}
 use Rattle.numerals.specs.Numeral.{digit, number-from, number, at-most, minus, numeral}
-use Rattle.numerals.specs.Parts.{ink, apart, odd, Running}
+use Rattle.numerals.specs.Parts.{ink, apart, odd}
 use Rattle.lexis.proofs.Lists.{view}
 use Rattle.lexis.proofs.Seeking.{never, until-step, until-stop, until-here, until-take}
 
@@ -74,6 +74,14 @@ quiet x f =
         by false true p q e = ne-eqb x b (λ k. let g = q refl in omega arith)
         by false false p q e = absurd (false≢true e)
 
+-- digits have been passed from the place k of s up to i, and wrote n: left out of what stands before the next byte that passes p
+pub record Running (p : ℕ → Bool) (s : Text) (k i n : ℕ) : Type 0 where
+  pub onward : k ≤ i
+  pub len : k + length (until p (drop k s)) ≡ i + length (until p (drop i s))
+  pub same : number-from 0 (until p (drop k s)) ≡ number-from n (until p (drop i s))
+  pub trimmed : number-from 0 (less-trailing white (until p (drop k s))) ≡ number-from n (less-trailing white (until p (drop i s)))
+  pub lead : (i ≡ k → ⊥) → 48 ≤ getD s k 0
+
 pub begun : (p : ℕ → Bool) (s : Text) (k : ℕ) → Running p s k k 0
 begun p s k = record { onward = omega arith; len = refl; same = refl; trimmed = refl; lead = λ n. absurd (n refl) }
 
@@ -106,14 +114,6 @@ module _ {p : ℕ → Bool} (q : Quiet p) where
           → trim (until p (b ∷ t)) ≡ trim (until p (drop (n c) (b ∷ t)))
       by true w g r = rw (g refl, w) r
       by false w g r = refl
-
-  -- those in front end at i
-  module _ (s : Text) {i : ℕ} (a : i ≡ length (until ink s)) where
-    pub white-len : length (until p s) ≡ i + length (until p (drop i s))
-    white-len = len-behind s ∙ ap (λ (n : ℕ). n + length (until p (drop n s))) (sym a)
-
-    pub white-trim : trim (until p s) ≡ trim (until p (drop i s))
-    white-trim = trim-behind s ∙ ap (λ (n : ℕ). trim (until p (drop n s))) (sym a)
 
   -- ── one digit more, and the end ──
 
@@ -256,8 +256,11 @@ module _ (w : ℕ) where
 -- ── the whole part, where white bytes stand before i ──
 
 module _ {p : ℕ → Bool} (q : Quiet p) (s : Text) {i : ℕ} (a : i ≡ length (until ink s)) where
+  white-len : length (until p s) ≡ i + length (until p (drop i s))
+  white-len = len-behind q s ∙ ap (λ (n : ℕ). n + length (until p (drop n s))) (sym a)
+
   pub plus-len : {e : ℕ} → e ≡ i + length (until p (drop i s)) → e ≡ length (until p s)
-  plus-len v = v ∙ sym (white-len q s a)
+  plus-len v = v ∙ sym white-len
 
   pub minus-len : getD s i 0 ≡ 45 → {e : ℕ} → e ≡ (i + 1) + length (until p (drop (i + 1) s)) → e ≡ length (until p s)
   minus-len k {e} v = let l = ap length (behind p s i k (omega arith) (q .on-minus)) in plus-len (let o : e ≡ i + length (until p (drop i s)) = omega arith in o)
@@ -265,7 +268,7 @@ module _ {p : ℕ → Bool} (q : Quiet p) (s : Text) {i : ℕ} (a : i ≡ length
   -- the numeral of the whole part
   module _ (w : ℕ) where
     whole : numeral w (trim (until p s)) ≡ numeral w (trim (until p (drop i s)))
-    whole = ap (numeral w) (white-trim q s a)
+    whole = ap (numeral w) (trim-behind q s ∙ ap (λ (n : ℕ). trim (until p (drop n s))) (sym a))
 
     signed-whole : getD s i 0 ≡ 45 → numeral w (trim (until p s)) ≡ numeral w (trim (45 ∷ until p (drop (i + 1) s)))
     signed-whole k = whole ∙ ap (λ (t : Text). numeral w (trim t)) (behind p s i k (omega arith) (q .on-minus))

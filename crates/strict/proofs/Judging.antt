@@ -29,7 +29,7 @@ use Rattle.strict.specs.Cursor.{valued}
 use Rattle.strict.specs.Lists.{Row, nothing, pushes}
 use Rattle.strict.specs.Whole as W
 use Rattle.strict.specs.Plain as P
-use Rattle.strict.proofs.Numbers.{view}
+use Rattle.lexis.proofs.Lists.{view}
 
 -- ── the code's tables ──
 

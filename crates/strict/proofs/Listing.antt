@@ -16,7 +16,7 @@ use Rattle.strict.specs.Lists.{Row, row, nothing, pushed, pushes}
 use Rattle.strict.specs.Cursor.{Told, Spaced, place, gap}
 use Rattle.strict.specs.Words.{next}
 use Rattle.strict.proofs.Cursors.{valued-past, valued-off, place-past, past, begin}
-use Rattle.strict.proofs.Numbers.{view}
+use Rattle.lexis.proofs.Lists.{view}
 use Rattle.strict.proofs.Items.{goes, Parts}
 
 pour : (l : Row) (z : ℤ) (p : Answer (List ℤ)) → mapped (pushes l) (mapped (more z) p) ≡ mapped (pushes (pushed l z)) p

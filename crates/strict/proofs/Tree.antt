@@ -15,7 +15,7 @@ use Rattle.grammar.specs.Join.{after}
 use Rattle.strict.specs.Cursor.{Told, place, stuck-at}
 use Rattle.strict.specs.Words.{next, among, choose, entries, advances, both, differ, ended}
 use Rattle.strict.specs.declared.words.Picked.{Picked}
-use Rattle.strict.proofs.Numbers.{view}
+use Rattle.lexis.proofs.Lists.{view}
 use Rattle.strict.proofs.Cursors as C
 use Rattle.strict.proofs.Chain as H
 

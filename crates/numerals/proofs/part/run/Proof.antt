@@ -1,6 +1,6 @@
 -- `run` meets its contract: zeros, then digits have been passed up to i, and wrote n.
-use Rattle.numerals.specs.Parts.{Running}
 use Rattle.numerals.proofs.Walking as L
+use Rattle.numerals.proofs.Walking.{Running}
 use borrow.Author.Tests.{eq-eqb, ne-eqb}
 use lib.Dec.{eqb}
 use lib.ListN.{length}
