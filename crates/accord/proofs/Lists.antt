@@ -16,10 +16,11 @@ use Rattle.meaning.specs.Parts.{last, front}
 use Rattle.meaning.specs.Found.{Entry, read}
 use Rattle.meaning.specs.Tile.{DYNAMIC, read-or, dimension}
 use Rattle.meaning.specs.Views.{small, tile-entries}
-use Rattle.grammar.specs.Tests.{every, and-left, and-right, and-in, is-true, T-not-eq}
+use Rattle.grammar.specs.Tests.{every, and-left, and-right, and-in, is-true, T-not-eq, every-mono, every-++}
+use Rattle.grammar.specs.Digits.{decimal-over}
 use Rattle.accord.proofs.Shape.{all, absent, first}
 use Rattle.accord.proofs.Bracket.{lacks}
-use Rattle.accord.proofs.Num.{every-mono, every-++, figure, decimal-figure, decimal-over, non, trim-none, numeral-decimal, ranged, decimal-visible}
+use Rattle.accord.proofs.Num.{figure, decimal-figure, non, trim-none, numeral-decimal, ranged, decimal-visible}
 
 -- ── splitting ──
 module _ (x : ℕ) where

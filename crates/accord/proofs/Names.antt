@@ -10,7 +10,7 @@ use lib.ListN.{length}
 use Rattle.scalars.specs.Names.{scalar-name}
 use Rattle.scalars.specs.declared.scalar.Scalar.{Scalar}
 use Rattle.scalars.specs.declared.scalar.Scalar.the-variants.{I1}
-use Rattle.grammar.specs.Tests.{every, and-left, and-right}
+use Rattle.grammar.specs.Tests.{every, every-nth}
 use Rattle.meaning.specs.Strict.{nth, words, scalars, Name, word, scalarOf}
 
 pub table : {B : Type 0} (f : List ℕ → B) (g : Scalar → B) (ws : List (List ℕ)) (ss : List Scalar) → map f ws ≡ map g ss →
@@ -24,11 +24,6 @@ pub name-word : (n : Name) → scalar-name (word n) ≡ some (scalarOf n)
 unfolding scalar-name
 name-word n = table scalar-name some words scalars refl (n .index) (ltb→lt (n .index) 22 (n .within))
 
-each-class : (C : ℕ → Bool) (ws : List (List ℕ)) → T (every (every C) ws) → (i : ℕ) → T (every C (nth [] ws i))
-each-class C [] h i = tt
-each-class C (w ∷ ws) h zero = and-left (every C w) (every (every C) ws) h
-each-class C (w ∷ ws) h (suc i) = each-class C ws (and-right (every C w) (every (every C) ws) h) i
-
 -- a test that each spelling passes, computed once
 pub word-class : (C : ℕ → Bool) → T (every (every C) words) → (n : Name) → T (every C (word n))
-word-class C h n = each-class C words h (n .index)
+word-class C h n = every-nth (every C) [] tt words h (n .index)

@@ -11,16 +11,13 @@ use lib.IntN.{ℤ, pos, negsuc}
 use Rattle.lexis.specs.Text.{white, trim, less-leading, less-trailing, unless-last, if_then_else_}
 use Rattle.numerals.specs.Numeral.{digit, number-from, number, at-most, minus, numeral}
 use Rattle.meaning.specs.Decimal.{digits, decimal}
-use Rattle.grammar.specs.Tests.{every, and-left, and-right, and-in, or-left, or-cases, is-true, T-not-eq}
-use Rattle.grammar.specs.Digits.{small}
+use Rattle.grammar.specs.Tests.{every, and-left, and-right, or-left, or-cases, is-true, T-not-eq, every-mono}
+use Rattle.grammar.specs.Digits.{small, digit-ok, digits-digit, decimal-over}
 use Rattle.accord.proofs.Bracket.{apart}
 
 abbrev pub vacant : List ℕ → Bool
 vacant [] = true
 vacant (c ∷ s) = false
-
-digit-ok : (d : ℕ) → d < 10 → T (digit (48 + d))
-digit-ok d h = and-in (leb 48 (48 + d)) (leb (48 + d) 57) (le→leb 48 (48 + d) (omega arith)) (le→leb (48 + d) 57 (omega arith))
 
 horner-step : (a c : ℕ) (s : List ℕ) → T (digit c) → number-from a (c ∷ s) ≡ number-from (a * 10 + (c - 48)) s
 horner-step a c s h = ap (λ (k : Bool). if k then number-from (a * 10 + (c - 48)) s else none) (is-true (digit c) h)
@@ -38,24 +35,6 @@ digits-horner (suc f) n ds h = go (ltb n 10) (ltb→lt n 10) (nltb→le n 10) (�
     go false p q r = r (q tt) ∙ horner-digit (n / 10) (n % 10) n ds (mod-lt n (zero-lt-suc 9)) (let e = div-add-mod n 10 in omega arith)
 
 -- ── classes ──
-pub every-mono : (C D : ℕ → Bool) → ((c : ℕ) → T (C c) → T (D c)) → (t : List ℕ) → T (every C t) → T (every D t)
-every-mono C D f [] h = tt
-every-mono C D f (c ∷ t) h = and-in (D c) (every D t) (f c (and-left (C c) (every C t) h)) (every-mono C D f t (and-right (C c) (every C t) h))
-
-pub every-++ : (C : ℕ → Bool) (a b : List ℕ) → T (every C a) → T (every C b) → T (every C (a ++ b))
-every-++ C [] b h k = k
-every-++ C (c ∷ a) b h k = and-in (C c) (every C (a ++ b)) (and-left (C c) (every C a) h) (every-++ C a b (and-right (C c) (every C a) h) k)
-
-digits-digit : (f n : ℕ) (ds : List ℕ) → T (every digit ds) → T (every digit (digits f n ds))
-digits-digit zero n ds h = and-in (digit (48 + n % 10)) (every digit ds) (digit-ok (n % 10) (mod-lt n (zero-lt-suc 9))) h
-digits-digit (suc f) n ds h = go (ltb n 10) (ltb→lt n 10) (digits-digit f (n / 10) ((48 + n % 10) ∷ ds)
-    (and-in (digit (48 + n % 10)) (every digit ds) (digit-ok (n % 10) (mod-lt n (zero-lt-suc 9))) h))
-  where
-    go : (k : Bool) → (T k → n < 10) → T (every digit (digits f (n / 10) ((48 + n % 10) ∷ ds))) →
-        T (every digit (elim k [ true ↦ (48 + n) ∷ ds | false ↦ digits f (n / 10) ((48 + n % 10) ∷ ds) ]))
-    go true q r = and-in (digit (48 + n)) (every digit ds) (digit-ok n (q tt)) h
-    go false q r = r
-
 pub digits-any : (f n : ℕ) (ds : List ℕ) → T (not (vacant (digits f n ds)))
 digits-any zero n ds = tt
 digits-any (suc f) n ds = go (ltb n 10) (digits-any f (n / 10) ((48 + n % 10) ∷ ds))
@@ -76,12 +55,6 @@ pub figure-visible : (c : ℕ) → T (figure c) → T (visible c)
 figure-visible c h = or-cases (digit c) (eqb c 45 || eqb c 63)
     (λ d. le→leb 33 c (let p = leb→le 48 c (and-left (leb 48 c) (leb c 57) d) in omega arith))
     (or-cases (eqb c 45) (eqb c 63) (λ e. le→leb 33 c (let p = eqb→eq c 45 e in omega arith)) (λ e. le→leb 33 c (let p = eqb→eq c 63 e in omega arith))) h
-
--- a class with the digits and `-`
-pub decimal-over : (D : ℕ → Bool) → ((c : ℕ) → T (digit c) → T (D c)) → T (D 45) → (z : ℤ) → T (every D (decimal z))
-decimal-over D f m (pos n) = every-mono digit D f (digits n n []) (digits-digit n n [] tt)
-decimal-over D f m (negsuc n) =
-    and-in (D 45) (every D (digits (suc n) (suc n) [])) m (every-mono digit D f (digits (suc n) (suc n) []) (digits-digit (suc n) (suc n) [] tt))
 
 pub decimal-figure : (z : ℤ) → T (every figure (decimal z))
 decimal-figure z = decimal-over figure (λ c h. or-left (digit c) (eqb c 45 || eqb c 63) h) tt z
