@@ -8,7 +8,7 @@ use mathlib.Core.Path.{_≡_, refl, ap, _∙_}
 use lib.Dec.{T, eqb}
 use lib.ListN.{length}
 use lib.IntN.{pos, negsuc}
-use Rattle.lexis.specs.Text.{bytes, trim, split, cut, Cut, nowhere, begins, less-leading, less-trailing, unless-last, if_then_else_}
+use Rattle.lexis.specs.Text.{bytes, white, trim, split, cut, Cut, nowhere, begins, less-leading, less-trailing, unless-last, if_then_else_}
 use Rattle.scalars.specs.Names.{scalar-name}
 use Rattle.meaning.specs.Decimal.{Dim, dynamic, known, dim, size, in64}
 use Rattle.meaning.specs.Strict as Form
@@ -21,7 +21,7 @@ use Rattle.grammar.specs.Tests.{every, and-left, and-right, T-not-eq, every-++}
 use Rattle.accord.proofs.Shape.{absent, first}
 use Rattle.accord.proofs.Bracket.{lacks}
 use Rattle.accord.proofs.Forms.{_&_, say, dims-in, strs-in, name-in, may-in, body}
-use Rattle.accord.proofs.Num.{vacant, figure, figure-visible, visible, trim-none, non, front-none, back-past, digits-any}
+use Rattle.accord.proofs.Num.{vacant, figure, figure-ink, trim-none, non, front-none, back-past, digits-any}
 use Rattle.accord.proofs.Lists.{exact, dim-figure, figures, dims-split, split-at, split-none, last-snoc, front-snoc, sizes-dims, strides-read, dims-over, commas-over}
 use Rattle.accord.proofs.Names.{name-word, word-class}
 use Rattle.accord.proofs.Cases.{first-at, _⊳_}
@@ -61,13 +61,13 @@ shed-cuda : (b : Bool) → less-repeats (bytes "!cuda_tile.") (cuda b) ≡ []
 shed-cuda true = refl
 shed-cuda false = refl
 
-cuda-visible : (b : Bool) → T (every visible (cuda b))
-cuda-visible true = tt
-cuda-visible false = tt
+cuda-ink : (b : Bool) → T (every (non white) (cuda b))
+cuda-ink true = tt
+cuda-ink false = tt
 
 unprefixed : (ds : List Dim) (b : Bool) → less-repeats (bytes "!cuda_tile.") (trim (dims ds ++ cuda b)) ≡ dims ds
 unprefixed ds b =
-    ap (less-repeats (bytes "!cuda_tile.")) (trim-none (dims ds ++ cuda b) (every-++ visible (dims ds) (cuda b) (dims-over visible figure-visible tt ds) (cuda-visible b)))
+    ap (less-repeats (bytes "!cuda_tile.")) (trim-none (dims ds ++ cuda b) (every-++ (non white) (dims ds) (cuda b) (dims-over (non white) figure-ink tt ds) (cuda-ink b)))
     ∙ shed-past (bytes "cuda_tile.") (dims ds) (cuda b) (dims-over (non (eqb 33)) (lacks figure 33 tt) tt ds)
     ∙ ap (λ (l : List ℕ). dims ds ++ l) (shed-cuda b) ∙ append-nil (dims ds)
 

@@ -20,7 +20,7 @@ use Rattle.grammar.specs.Tests.{every, and-left, and-right, and-in, is-true, T-
 use Rattle.grammar.specs.Digits.{decimal-over}
 use Rattle.accord.proofs.Shape.{all, absent, first}
 use Rattle.accord.proofs.Bracket.{lacks}
-use Rattle.accord.proofs.Num.{figure, decimal-figure, non, trim-none, numeral-decimal, ranged, decimal-visible}
+use Rattle.accord.proofs.Num.{figure, decimal-figure, non, decimal-tight, numeral-decimal, ranged}
 
 -- ── splitting ──
 module _ (x : ℕ) where
@@ -64,14 +64,14 @@ dimension-dim : (d : Dim) → T (in64 d) → dimension (dim d) ≡ read (size d)
 unfolding dimension DYNAMIC
 dimension-dim dynamic h = refl
 dimension-dim (known z) h =
-    ap (λ (t : List ℕ). if same t (bytes "?") then read DYNAMIC else read-or DYNAMIC (numeral 64 t)) (trim-none (decimal z) (decimal-visible z))
+    ap (λ (t : List ℕ). if same t (bytes "?") then read DYNAMIC else read-or DYNAMIC (numeral 64 t)) (decimal-tight z)
     ∙ ap (λ (k : Bool). if k then read DYNAMIC else read-or DYNAMIC (numeral 64 (decimal z))) (same-lacks 63 (decimal z) (decimal-over (non (eqb 63)) (lacks digit 63 tt) tt z))
     ∙ ap (read-or DYNAMIC) (numeral-decimal 64 z (in64-ranged z h))
 
 pub small-decimal : (d z : ℤ) → T (in32 z) → small d (decimal z) ≡ read z
 unfolding small
 small-decimal d z h =
-    ap (λ (t : List ℕ). read-or d (numeral 32 t)) (trim-none (decimal z) (decimal-visible z)) ∙ ap (read-or d) (numeral-decimal 32 z (in32-ranged z h))
+    ap (λ (t : List ℕ). read-or d (numeral 32 t)) (decimal-tight z) ∙ ap (read-or d) (numeral-decimal 32 z (in32-ranged z h))
 
 dimension-gap : (s : Bool) (d : Dim) → T (in64 d) → dimension (may s (bytes " ") ++ dim d) ≡ read (size d)
 unfolding dimension

@@ -2,14 +2,15 @@
 use Prim.Native.Nat.{ℕ, zero, suc, _+_, _-_, _*_, _/_, _%_, _^_, _≤_, _<_}
 use native.Mathlib.Omega.{arith}
 use native.Mathlib.Nat.{mod-lt, zero-lt-suc, div-add-mod, le-refl}
-use mathlib.Core.Bool.{Bool, true, false, _&&_, _||_, not}
-use mathlib.Core.List.{List, [], _∷_, _++_}
+use mathlib.Core.Bool.{Bool, true, false, _||_, not}
+use mathlib.Core.List.{List, [], _∷_, _++_, append-nil}
 use mathlib.Core.Option.{none, some}
-use mathlib.Core.Path.{_≡_, refl, ap, _∙_}
-use lib.Dec.{T, eqb, leb, ltb, le→leb, leb→le, ltb→lt, nltb→le, eqb→eq}
+use mathlib.Core.Path.{_≡_, refl, sym, ap, _∙_}
+use lib.Dec.{T, eqb, leb, ltb, leb→le, ltb→lt, nltb→le, eqb→eq}
 use lib.IntN.{ℤ, pos, negsuc}
 use Rattle.lexis.specs.Text.{white, trim, less-leading, less-trailing, unless-last, if_then_else_}
 use Rattle.numerals.specs.Numeral.{digit, number-from, number, at-most, minus, numeral}
+use Rattle.numerals.proofs.Walking.{white-low}
 use Rattle.meaning.specs.Decimal.{digits, decimal}
 use Rattle.grammar.specs.Tests.{every, and-left, and-right, or-left, or-cases, is-true, T-not-eq, every-mono}
 use Rattle.grammar.specs.Digits.{small, digit-ok, digits-digit, decimal-over}
@@ -48,13 +49,9 @@ digits-any (suc f) n ds = go (ltb n 10) (digits-any f (n / 10) ((48 + n % 10) �
 abbrev pub figure : ℕ → Bool
 figure c = digit c || (eqb c 45 || eqb c 63)
 
-abbrev pub visible : ℕ → Bool
-visible c = ltb 32 c
-
-pub figure-visible : (c : ℕ) → T (figure c) → T (visible c)
-figure-visible c h = or-cases (digit c) (eqb c 45 || eqb c 63)
-    (λ d. le→leb 33 c (let p = leb→le 48 c (and-left (leb 48 c) (leb c 57) d) in omega arith))
-    (or-cases (eqb c 45) (eqb c 63) (λ e. le→leb 33 c (let p = eqb→eq c 45 e in omega arith)) (λ e. le→leb 33 c (let p = eqb→eq c 63 e in omega arith))) h
+figure-high : (c : ℕ) → T (figure c) → 33 ≤ c
+figure-high c h = or-cases (digit c) (eqb c 45 || eqb c 63) (λ d. let p = leb→le 48 c (and-left (leb 48 c) (leb c 57) d) in omega arith)
+    (or-cases (eqb c 45) (eqb c 63) (λ e. let p = eqb→eq c 45 e in omega arith) (λ e. let p = eqb→eq c 63 e in omega arith)) h
 
 pub decimal-figure : (z : ℤ) → T (every figure (decimal z))
 decimal-figure z = decimal-over figure (λ c h. or-left (digit c) (eqb c 45 || eqb c 63) h) tt z
@@ -72,28 +69,25 @@ keep-same : (C : ℕ → Bool) (c : ℕ) (t : List ℕ) → C c ≡ false → un
 keep-same C c [] e = ap (λ (k : Bool). if k then [] else c ∷ []) e
 keep-same C c (x ∷ t) e = refl
 
-back-none : (C : ℕ → Bool) (t : List ℕ) → T (every (non C) t) → less-trailing C t ≡ t
-back-none C [] h = refl
-back-none C (c ∷ t) h =
-    ap (unless-last C c) (back-none C t (and-right (non C c) (every (non C) t) h)) ∙ keep-same C c t (T-not-eq (C c) (and-left (non C c) (every (non C) t) h))
-
 pub back-past : (C : ℕ → Bool) (t s : List ℕ) → T (every (non C) t) → less-trailing C (t ++ s) ≡ t ++ less-trailing C s
 back-past C [] s h = refl
 back-past C (c ∷ t) s h =
     ap (unless-last C c) (back-past C t s (and-right (non C c) (every (non C) t) h)) ∙ keep-same C c (t ++ less-trailing C s) (T-not-eq (C c) (and-left (non C c) (every (non C) t) h))
 
-visible-nonwhite : (c : ℕ) → T (visible c) → T (non white c)
-visible-nonwhite c h = let q = leb→le 33 c h in go (white c) (λ w. or-cases (leb 9 c && leb c 13) (eqb c 32) (λ d. let p = leb→le c 13 (and-right (leb 9 c) (leb c 13) d) in omega arith)
-    (λ e. let p = eqb→eq c 32 e in omega arith) w)
+pub trim-none : (t : List ℕ) → T (every (non white) t) → trim t ≡ t
+trim-none t h =
+    ap (less-trailing white) (front-none white t h ∙ sym (append-nil t)) ∙ back-past white t [] h ∙ append-nil t
+
+-- no figure is white
+pub figure-ink : (c : ℕ) → T (figure c) → T (non white c)
+figure-ink c h = go (white c) (white-low c)
   where
-    go : (k : Bool) → (T k → ⊥) → T (not k)
-    go true f = absurd (f tt)
+    go : (k : Bool) → (k ≡ true → c ≤ 32) → T (not k)
+    go true f = let p = f refl in let q = figure-high c h in omega arith
     go false f = tt
 
-pub trim-none : (t : List ℕ) → T (every visible t) → trim t ≡ t
-trim-none t h =
-    let n = every-mono visible (non white) visible-nonwhite t h in
-    ap (less-trailing white) (front-none white t n) ∙ back-none white t n
+pub decimal-tight : (z : ℤ) → trim (decimal z) ≡ decimal z
+decimal-tight z = trim-none (decimal z) (every-mono figure (non white) figure-ink (decimal z) (decimal-figure z))
 
 -- ── a numeral is read back ──
 number-some : (t : List ℕ) → T (not (vacant t)) → number t ≡ number-from 0 t
@@ -115,9 +109,6 @@ ranged w (negsuc n) = leb (suc n) (2 ^ (w - 1))
 
 kept : (limit : ℕ) (value : ℕ → ℤ) (n : ℕ) → T (leb n limit) → at-most limit value (some n) ≡ some (value n)
 kept limit value n h = ap (λ (k : Bool). if k then some (value n) else none) (is-true (leb n limit) h)
-
-pub decimal-visible : (z : ℤ) → T (every visible (decimal z))
-decimal-visible z = every-mono figure visible figure-visible (decimal z) (decimal-figure z)
 
 pub numeral-decimal : (w : ℕ) (z : ℤ) → T (ranged w z) → numeral w (decimal z) ≡ some z
 numeral-decimal w (pos n) h =
