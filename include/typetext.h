@@ -46,6 +46,9 @@ extern "C" {
 /* The most bytes that a sheet of texts can have; a longer one is refused with TYPETEXT_SHEET_TOO_LONG. */
 #define TYPETEXT_LONGEST_SHEET 65536
 
+/* No call takes more bytes of stack than this, whatever it is handed; for threads with a small stack. */
+#define TYPETEXT_STACK 24576
+
 /* An entry of `shape` or `strides` that is known only when the kernel runs; written `?`. */
 #define TYPETEXT_DYNAMIC INT64_MIN
 
@@ -140,14 +143,19 @@ typedef struct typetext_record {
     uint8_t attribute;                    /* 1: the mark #cuda_tile.ptr_attr<none>; else 0 */
 } typetext_record;
 
+/* The defaults that the ordinary reader took. */
+typedef struct typetext_note {
+    size_t a; /* shape and stride entries that are neither `?` nor readable, now dynamic */
+    size_t b; /* tile-shape entries set to 1 as unreadable */
+    size_t c; /* dim-map, traversal and sparse entries set to 0 as unreadable */
+    size_t d; /* whole clauses filled in: strides, dim map, traversal strides, sparse dimension */
+} typetext_note;
+
 /* What a reader answers. A refused reading has a token for its value and zero counts. */
 typedef struct typetext_reading {
     typetext_record value; /* the type; its address can be handed to typetext_write */
     size_t place;          /* for TYPETEXT_NOT_ASCII the place of the byte, from 0; else 0 */
-    size_t a;              /* shape and stride entries that are neither `?` nor readable, now dynamic */
-    size_t b;              /* tile-shape entries set to 1 as unreadable */
-    size_t c;              /* dim-map, traversal and sparse entries set to 0 as unreadable */
-    size_t d;              /* whole clauses filled in: strides, dim map, traversal strides, sparse dimension */
+    typetext_note note;    /* the defaults taken */
     uint8_t refusal;       /* an enum typetext_refusal */
 } typetext_reading;
 
@@ -165,7 +173,7 @@ typedef struct typetext_sheet_totals {
     size_t refused_2; /* with TYPETEXT_NOT_ASCII */
     size_t refused_3; /* with TYPETEXT_NO_TYPE */
     size_t refused_4; /* with TYPETEXT_LIST_TOO_LONG */
-    size_t a;         /* sums of the readings' counts `a` to `d` */
+    size_t a;         /* sums of `a` to `d` over the readings' notes */
     size_t b;
     size_t c;
     size_t d;
@@ -181,12 +189,12 @@ typedef struct typetext_row {
     uint8_t refusal; /* TYPETEXT_ACCEPTED or TYPETEXT_SHEET_TOO_LONG */
 } typetext_row;
 
-/* The ordinary reader: what Type::parse returns for this text, or refusal 1, 2, 3 or 4. Look at `a` to `d` before you
- * trust the type: where all four are 0, no default was taken. */
+/* The ordinary reader: what Type::parse returns for this text, or refusal 1, 2, 3 or 4. Look at the `note` before you
+ * trust the type: where its four counts are 0, no default was taken. */
 typetext_reading typetext_parse(const uint8_t *text, size_t len);
 
 /* The strict reader: the type of a strict form, or refusal 1, 2, 5 or 4. What it accepts, typetext_parse reads as the
- * same type; `a` to `d` are 0. */
+ * same type; the counts of the `note` are 0. */
 typetext_reading typetext_parse_strict(const uint8_t *text, size_t len);
 
 /* The writer: the record's text at the front of the room, or refusal 6, 7 or 8. The text is a strict form and reads back

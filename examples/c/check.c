@@ -49,12 +49,14 @@ static void layout(void)
     CHECK(sizeof(typetext_record) == 280);
     OFFSET(typetext_reading, value, 0);
     OFFSET(typetext_reading, place, 280);
-    OFFSET(typetext_reading, a, 288);
-    OFFSET(typetext_reading, b, 296);
-    OFFSET(typetext_reading, c, 304);
-    OFFSET(typetext_reading, d, 312);
+    OFFSET(typetext_reading, note, 288);
     OFFSET(typetext_reading, refusal, 320);
     CHECK(sizeof(typetext_reading) == 328);
+    OFFSET(typetext_note, a, 0);
+    OFFSET(typetext_note, b, 8);
+    OFFSET(typetext_note, c, 16);
+    OFFSET(typetext_note, d, 24);
+    CHECK(sizeof(typetext_note) == 32);
     OFFSET(typetext_written, len, 0);
     OFFSET(typetext_written, refusal, 8);
     CHECK(sizeof(typetext_written) == 16);
@@ -158,7 +160,7 @@ static void fields(void)
                                "tensor_view<?x-7xbf16, strides=[9, ?], #cuda_tile.ptr_attr<none>>, dim_map=[1,0]>");
     const typetext_record *v = &r.value;
     CHECK(r.refusal == TYPETEXT_ACCEPTED && r.place == 0);
-    CHECK(r.a == 0 && r.b == 0 && r.c == 0 && r.d == 0);
+    CHECK(r.note.a == 0 && r.note.b == 0 && r.note.c == 0 && r.note.d == 0);
     CHECK(v->shape_len == 2 && v->shape[0] == TYPETEXT_DYNAMIC && v->shape[1] == -7 && v->shape[2] == 0);
     CHECK(v->strides_len == 2 && v->strides[0] == 9 && v->strides[1] == TYPETEXT_DYNAMIC && v->strides[7] == 0);
     CHECK(v->tile_len == 2 && v->tile[0] == 2 && v->tile[1] == 3 && v->tile[2] == 0);
@@ -175,7 +177,7 @@ static void counts(void)
     typetext_reading r = parse("strided_view<tile=(x2), traversal_strides=[q,r,s], tensor_view<axbxcxdxf32, "
                                "strides=[1]>>");
     CHECK(r.refusal == TYPETEXT_ACCEPTED);
-    CHECK(r.a == 4 && r.b == 1 && r.c == 3 && r.d == 1);
+    CHECK(r.note.a == 4 && r.note.b == 1 && r.note.c == 3 && r.note.d == 1);
     CHECK(r.value.tile[0] == 1 && r.value.traversal[2] == 0 && r.value.map_len == 2 && r.value.map[1] == 1);
 }
 
@@ -185,8 +187,8 @@ static int is_blank(const typetext_reading *r)
     typetext_record none;
     memset(&none, 0, sizeof none);
     none.kind = TYPETEXT_TOKEN;
-    return memcmp(&r->value, &none, offsetof(typetext_record, attribute) + 1) == 0 && r->a == 0 && r->b == 0 &&
-           r->c == 0 && r->d == 0;
+    return memcmp(&r->value, &none, offsetof(typetext_record, attribute) + 1) == 0 && r->note.a == 0 &&
+           r->note.b == 0 && r->note.c == 0 && r->note.d == 0;
 }
 
 static void refused(int line, typetext_reading r, int number, size_t place)
@@ -349,8 +351,8 @@ static void longest(void)
 static int same(const typetext_reading *r, const typetext_reading *s)
 {
     size_t record = offsetof(typetext_record, attribute) + 1;
-    return memcmp(&r->value, &s->value, record) == 0 && r->place == s->place && r->a == s->a && r->b == s->b &&
-           r->c == s->c && r->d == s->d && r->refusal == s->refusal;
+    return memcmp(&r->value, &s->value, record) == 0 && r->place == s->place &&
+           memcmp(&r->note, &s->note, sizeof r->note) == 0 && r->refusal == s->refusal;
 }
 
 static uint8_t block[TYPETEXT_COLLECTOR + 1]; /* one more byte, which must stay as it is */
@@ -534,10 +536,10 @@ static typetext_sheet_totals walked(const uint8_t *sheet, size_t len)
         t.refused_2 += r.refusal == TYPETEXT_NOT_ASCII;
         t.refused_3 += r.refusal == TYPETEXT_NO_TYPE;
         t.refused_4 += r.refusal == TYPETEXT_LIST_TOO_LONG;
-        t.a += r.a;
-        t.b += r.b;
-        t.c += r.c;
-        t.d += r.d;
+        t.a += r.note.a;
+        t.b += r.note.b;
+        t.c += r.note.c;
+        t.d += r.note.d;
     }
     t.refusal = row.refusal;
     return t;

@@ -37,7 +37,8 @@ static void show_reading(const char *how, const typetext_reading *r)
     if (r->refusal != TYPETEXT_ACCEPTED)
         return;
     show(&r->value);
-    printf("  defaults taken: a %zu, b %zu, c %zu, d %zu\n", r->a, r->b, r->c, r->d);
+    printf("  defaults taken: a %zu, b %zu, c %zu, d %zu\n", r->note.a, r->note.b, r->note.c,
+           r->note.d);
 }
 
 /* Any text is read as far as can be; the counts say what was made up. */

@@ -28,7 +28,7 @@ static void show_row(size_t number, const uint8_t *text, size_t len)
     typetext_reading r = typetext_parse(text, len);
     if (r.refusal != TYPETEXT_ACCEPTED)
         printf("row %zu, refused %d: %.*s\n", number, r.refusal, (int)len, (const char *)text);
-    else if (r.a + r.b + r.c + r.d > 0)
+    else if (r.note.a + r.note.b + r.note.c + r.note.d > 0)
         printf("row %zu, defaults taken: %.*s\n", number, (int)len, (const char *)text);
 }
 

@@ -92,13 +92,23 @@ pub mod with_library {
     use crate::answer::{Counts, Kind, Record};
     use std::mem::MaybeUninit;
 
-    /// The layout of docs/ABI.md.
+    /// The defaults taken, in the layout of docs/ABI.md.
+    #[repr(C)]
+    #[derive(Clone, Copy)]
+    struct Note {
+        a: usize,
+        b: usize,
+        c: usize,
+        d: usize,
+    }
+
+    /// A reading, in that layout.
     #[repr(C)]
     #[derive(Clone, Copy)]
     pub struct Reading {
         pub value: Flat,
         place: usize,
-        counts: [usize; 4],
+        note: Note,
         pub refusal: u8,
     }
 
@@ -169,10 +179,18 @@ pub mod with_library {
         })
     }
 
+    fn counts(note: &Note) -> Counts {
+        Counts {
+            a: note.a as u32,
+            b: note.b as u32,
+            c: note.c as u32,
+            d: note.d as u32,
+        }
+    }
+
     fn answered(reading: &Reading) -> Result<Answer, String> {
         let record = reading.value.record()?;
-        let [a, b, c, d] = reading.counts.map(|n| n as u32);
-        let counts = Counts { a, b, c, d };
+        let counts = counts(&reading.note);
         if reading.refusal == 0 {
             return match reading.place {
                 0 => Ok(Answer::Accepted(record, Some(counts))),

@@ -37,6 +37,8 @@
 //! [`Collector`] reads so too, a text that comes in pieces, and [`Sheet`] a sheet of texts: it counts them, and yields them
 //! row after row.
 //!
+//! Any bytes get an answer, also on a thread with a small stack: no call of the library takes over [`STACK`] bytes of it.
+//!
 //! A type can also be built, and then always has a text:
 //!
 //! ```
@@ -76,6 +78,10 @@ pub const DYNAMIC: i64 = i64::MIN;
 
 /// The most bytes that the readers take.
 pub const LONGEST_TEXT: usize = 1024;
+
+/// The most bytes of stack that a call of the library takes, whatever it is handed; for threads with a small stack. This
+/// crate's own part comes on top of it: answers, and copies of them where nothing is optimised.
+pub const STACK: usize = 24576;
 
 /// The most bytes of a sheet.
 pub const LONGEST_SHEET: usize = 65536;

@@ -31,13 +31,18 @@ pub struct Record {
 }
 
 #[repr(C)]
-pub struct Reading {
-    pub value: Record,
-    pub place: usize,
+pub struct Note {
     pub a: usize,
     pub b: usize,
     pub c: usize,
     pub d: usize,
+}
+
+#[repr(C)]
+pub struct Reading {
+    pub value: Record,
+    pub place: usize,
+    pub note: Note,
     pub refusal: u8,
 }
 

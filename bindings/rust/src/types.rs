@@ -1,6 +1,6 @@
 //! A type: reading, looking at it, writing.
 
-use crate::raw::{self, Reading, Record};
+use crate::raw::{self, Note, Reading, Record};
 use crate::{Error, Kind, Padding, Scalar, Text, LONGEST_WRITTEN};
 use core::fmt;
 use core::str::FromStr;
@@ -29,12 +29,12 @@ impl Defaults {
         *self == Defaults::default()
     }
 
-    fn of(reading: &Reading) -> Defaults {
+    fn of(note: &Note) -> Defaults {
         Defaults {
-            shape_or_strides: reading.a,
-            tile: reading.b,
-            lists: reading.c,
-            clauses: reading.d,
+            shape_or_strides: note.a,
+            tile: note.b,
+            lists: note.c,
+            clauses: note.d,
         }
     }
 }
@@ -42,7 +42,7 @@ impl Defaults {
 /// What an ordinary reading says.
 pub(crate) fn ordinary(reading: &Reading) -> Result<(Type, Defaults), Error> {
     Error::check(reading)?;
-    Ok((Type(reading.value), Defaults::of(reading)))
+    Ok((Type(reading.value), Defaults::of(&reading.note)))
 }
 
 impl Type {

@@ -1,6 +1,7 @@
 -- On the text of every well-formed strict form the ordinary reading finds its meaning, and every count is zero: the content of each
 -- form is read by `Inner` and `Outer`, the brackets and the mark by `Outside`.
 use Prim.Native.Nat.{ℕ, _+_}
+use native.Mathlib.Omega.{arith}
 use mathlib.Core.Bool.{Bool, true, false, _&&_}
 use mathlib.Core.List.{List, [], _∷_, map, append-assoc, append-nil}
 use mathlib.Core.Option.{some}
@@ -22,7 +23,7 @@ use Rattle.meaning.specs.Strict as Form
 use Rattle.meaning.specs.Strict.{_⊕_, may, cuda, dims, Name, word, words, scalars, values, scalarOf, entriesOf, Form, spell}
 use Rattle.meaning.specs.Meant.{Any, any, eachOf, tensorOk, viewOk, ok, mean, stridesOf, padsOf}
 use Rattle.meaning.specs.Parts.{each}
-use Rattle.meaning.specs.Found.{value, Clause, stands, Found, unreadable, lacking, fallen, counts, made, plain, token, with-attribute}
+use Rattle.meaning.specs.Found.{Entry, Clause, stands, Found, unreadable, lacking, fallen, counts, unnoted, made, plain, token, with-attribute}
 use Rattle.meaning.specs.Found as F
 use Rattle.meaning.specs.Tile as Tile
 use Rattle.meaning.specs.Tile.{tile-of}
@@ -57,7 +58,7 @@ shown t = record {
 
 -- a type with nothing defaulted
 abbrev pub sure : Any → Shown
-sure a = record { type = a; note = record { a = 0; b = 0; c = 0; d = 0 } }
+sure a = record { type = a; note = unnoted }
 
 abbrev attributed : Any → Any
 attributed a = any (a .kind) (a .element) (a .pointer) true (a .shape) (a .strides) (a .tile) (a .map) (a .traversal) (a .sparse) (a .padding)
@@ -71,13 +72,13 @@ record Clean (c : Clause) (l : List ℤ) : Type 0 where
 clean : (l : List ℤ) → Clean (stands (exact l)) l
 clean l = record { holds = by l; readable = fine l; whole = refl }
   where
-    by : (l : List ℤ) → map value (exact l) ≡ l
+    by : (l : List ℤ) → map (λ (e : Entry). e .value) (exact l) ≡ l
     by [] = refl
     by (z ∷ l) = ap (λ (k : List ℤ). z ∷ k) (by l)
 
     fine : (l : List ℤ) → fallen (exact l) ≡ 0
     fine [] = refl
-    fine (z ∷ l) = fine l
+    fine (z ∷ l) = let h : fallen (exact l) ≡ 0 = fine l in omega arith
 
 clean-strides : (st : Form.Strides) → Clean (strides-found st) (stridesOf st)
 clean-strides Form.Strides.absent = record { holds = refl; readable = refl; whole = refl }

@@ -13,7 +13,7 @@ use Rattle.meaning.specs.Decimal.{decimal, Dim, dynamic, known, dim, size, in64
 use Rattle.meaning.specs.Strict.{may, comma, Next, Commas, rest, commas, values, dims, xrest, Entries, byX, byComma, entries, entriesOf}
 use Rattle.meaning.specs.Meant.{eachOf}
 use Rattle.meaning.specs.Parts.{last, front}
-use Rattle.meaning.specs.Found.{Entry, read}
+use Rattle.meaning.specs.Found.{Entry, as-read}
 use Rattle.meaning.specs.Tile.{DYNAMIC, read-or, dimension}
 use Rattle.meaning.specs.Views.{small, tile-entries}
 use Rattle.grammar.specs.Tests.{every, and-left, and-right, and-in, is-true, T-not-eq, every-mono, every-++}
@@ -38,7 +38,7 @@ module _ (x : ℕ) where
 
 -- ── entries ──
 abbrev pub exact : List ℤ → List Entry
-exact l = map read l
+exact l = map as-read l
 
 pub dim-figure : (d : Dim) → T (every figure (dim d))
 dim-figure dynamic = tt
@@ -60,31 +60,31 @@ in32-ranged : (z : ℤ) → T (in32 z) → T (ranged 32 z)
 in32-ranged (pos n) h = le→leb n (2 ^ 31 - 1) (let q = ltb→lt n (2 ^ 31) h in omega arith)
 in32-ranged (negsuc n) h = le→leb (suc n) (2 ^ 31) (let q = ltb→lt n (2 ^ 31) h in omega arith)
 
-dimension-dim : (d : Dim) → T (in64 d) → dimension (dim d) ≡ read (size d)
+dimension-dim : (d : Dim) → T (in64 d) → dimension (dim d) ≡ as-read (size d)
 unfolding dimension DYNAMIC
 dimension-dim dynamic h = refl
 dimension-dim (known z) h =
-    ap (λ (t : List ℕ). if same t (bytes "?") then read DYNAMIC else read-or DYNAMIC (numeral 64 t)) (decimal-tight z)
-    ∙ ap (λ (k : Bool). if k then read DYNAMIC else read-or DYNAMIC (numeral 64 (decimal z))) (same-lacks 63 (decimal z) (decimal-over (non (eqb 63)) (lacks digit 63 tt) tt z))
+    ap (λ (t : List ℕ). if same t (bytes "?") then as-read DYNAMIC else read-or DYNAMIC (numeral 64 t)) (decimal-tight z)
+    ∙ ap (λ (k : Bool). if k then as-read DYNAMIC else read-or DYNAMIC (numeral 64 (decimal z))) (same-lacks 63 (decimal z) (decimal-over (non (eqb 63)) (lacks digit 63 tt) tt z))
     ∙ ap (read-or DYNAMIC) (numeral-decimal 64 z (in64-ranged z h))
 
-pub small-decimal : (d z : ℤ) → T (in32 z) → small d (decimal z) ≡ read z
+pub small-decimal : (d z : ℤ) → T (in32 z) → small d (decimal z) ≡ as-read z
 unfolding small
 small-decimal d z h =
     ap (λ (t : List ℕ). read-or d (numeral 32 t)) (decimal-tight z) ∙ ap (read-or d) (numeral-decimal 32 z (in32-ranged z h))
 
-dimension-gap : (s : Bool) (d : Dim) → T (in64 d) → dimension (may s (bytes " ") ++ dim d) ≡ read (size d)
+dimension-gap : (s : Bool) (d : Dim) → T (in64 d) → dimension (may s (bytes " ") ++ dim d) ≡ as-read (size d)
 unfolding dimension
 dimension-gap true d h = dimension-dim d h
 dimension-gap false d h = dimension-dim d h
 
-small-gap : (d : ℤ) (s : Bool) (z : ℤ) → T (in32 z) → small d (may s (bytes " ") ++ decimal z) ≡ read z
+small-gap : (d : ℤ) (s : Bool) (z : ℤ) → T (in32 z) → small d (may s (bytes " ") ++ decimal z) ≡ as-read z
 unfolding small
 small-gap d true z h = small-decimal d z h
 small-gap d false z h = small-decimal d z h
 
 module _ {A : Type 0} (r : List ℕ → Entry) (t : A → List ℕ) (g : A → ℤ) (k : A → Bool) where
-  pub settled : ((a : A) → T (k a) → r (t a) ≡ read (g a)) → (xs : List A) → T (eachOf k xs) → map r (map t xs) ≡ exact (map g xs)
+  pub settled : ((a : A) → T (k a) → r (t a) ≡ as-read (g a)) → (xs : List A) → T (eachOf k xs) → map r (map t xs) ≡ exact (map g xs)
   settled f [] h = refl
   settled f (a ∷ xs) h = λ i. f a (and-left (k a) (eachOf k xs) h) i ∷ settled f xs (and-right (k a) (eachOf k xs) h) i
 
@@ -94,8 +94,8 @@ gap-class true t h = figures 44 tt t h
 gap-class false t h = figures 44 tt t h
 
 module _ {A : Type 0} (r : List ℕ → Entry) (f : A → List ℕ) (g : A → ℤ) (k : A → Bool) (cl : (a : A) → T (every figure (f a)))
-    (rd : (s : Bool) (a : A) → T (k a) → r (may s (bytes " ") ++ f a) ≡ read (g a)) where
-  rest-read : (ns : List (Next A)) (u : List ℕ) (v : ℤ) → T (every (non (eqb 44)) u) → r u ≡ read v → T (eachOf k (map (λ n. n .entry) ns)) →
+    (rd : (s : Bool) (a : A) → T (k a) → r (may s (bytes " ") ++ f a) ≡ as-read (g a)) where
+  rest-read : (ns : List (Next A)) (u : List ℕ) (v : ℤ) → T (every (non (eqb 44)) u) → r u ≡ as-read v → T (eachOf k (map (λ n. n .entry) ns)) →
       map r (split 44 (u ++ rest f ns)) ≡ exact (v ∷ map g (map (λ n. n .entry) ns))
   rest-read [] u v h e o =
       ap (λ (t : List ℕ). map r (split 44 t)) (append-nil u) ∙ ap (map r) (split-none 44 u h) ∙ ap (λ (o : Entry). o ∷ []) e
@@ -105,8 +105,8 @@ module _ {A : Type 0} (r : List ℕ → Entry) (f : A → List ℕ) (g : A → �
       (rd (n .space) (n .entry) (and-left (k (n .entry)) _ o)) (and-right (k (n .entry)) _ o) in
       ap (map r) (split-at 44 u (may (n .space) (bytes " ") ++ (f (n .entry) ++ rest f ns)) h)
       ∙ ap (λ (o : Entry). o ∷ map r (split 44 (may (n .space) (bytes " ") ++ (f (n .entry) ++ rest f ns)))) e
-      ∙ ap (λ (t : List ℕ). read v ∷ map r (split 44 t)) (sym (append-assoc (may (n .space) (bytes " ")) (f (n .entry)) (rest f ns)))
-      ∙ ap (λ (l : List Entry). read v ∷ l) ih
+      ∙ ap (λ (t : List ℕ). as-read v ∷ map r (split 44 t)) (sym (append-assoc (may (n .space) (bytes " ")) (f (n .entry)) (rest f ns)))
+      ∙ ap (λ (l : List Entry). as-read v ∷ l) ih
 
   commas-read : (c : Commas A) → T (eachOf k (values c)) → map r (split 44 (commas f c)) ≡ exact (map g (values c))
   commas-read c o = rest-read (c .tail) (f (c .head)) (g (c .head)) (gap-class false (f (c .head)) (cl (c .head)))

@@ -10,6 +10,7 @@ pub use count::TypetextRow;
 pub use count::TypetextTotals;
 pub use count::typetext_next_row;
 pub use count::typetext_totals;
+pub use numbers::TypetextNote;
 pub use numbers::TypetextReading;
 pub use numbers::TypetextRecord;
 use numbers::in_numbers;

@@ -13,7 +13,7 @@ use Rattle.lexis.specs.Text.{Text, bytes, if_then_else_, same, trim, until}
 use Rattle.lexis.proofs.Lists.{rest}
 use Rattle.numerals.proofs.Walking.{absent, sought-part}
 use Rattle.numerals.specs.Numeral.{numeral}
-use Rattle.meaning.specs.Found.{read}
+use Rattle.meaning.specs.Found.{as-read}
 use Rattle.meaning.specs.Tile.{DYNAMIC, read-or, dimension}
 use Rattle.meaning.specs.Views.{small}
 
@@ -23,12 +23,12 @@ unfolding DYNAMIC
 dynamic = refl
 
 module _ (s : Text) {t : Text} {b : Bool} (e : t ≡ trim s) (k : b ≡ same t (bytes "?")) where
-  by-test : (d : Bool) → b ≡ d → dimension s ≡ if d then read DYNAMIC else read-or DYNAMIC (numeral 64 t)
+  by-test : (d : Bool) → b ≡ d → dimension s ≡ if d then as-read DYNAMIC else read-or DYNAMIC (numeral 64 t)
   unfolding dimension
-  by-test d m = λ i. if (sym (sym m ∙ k ∙ ap (λ (u : Text). same u (bytes "?")) e) i) then read DYNAMIC else read-or DYNAMIC (numeral 64 (sym e i))
+  by-test d m = λ i. if (sym (sym m ∙ k ∙ ap (λ (u : Text). same u (bytes "?")) e) i) then as-read DYNAMIC else read-or DYNAMIC (numeral 64 (sym e i))
 
-  pub unknown : b ≡ true → read (negsuc 9223372036854775807) ≡ dimension s
-  unknown m = ap read dynamic ∙ sym (by-test true m)
+  pub unknown : b ≡ true → as-read (negsuc 9223372036854775807) ≡ dimension s
+  unknown m = ap as-read dynamic ∙ sym (by-test true m)
 
   pub number : {o : Option ℤ} → b ≡ false → o ≡ numeral 64 t → read-or (negsuc 9223372036854775807) o ≡ dimension s
   number m n = (λ i. read-or (dynamic i) (n i)) ∙ sym (by-test false m)
@@ -53,7 +53,7 @@ no-question (b ∷ c ∷ t) e = by (eqb b 63)
     by true = refl
     by false = refl
 
-pub known : (s : Text) {z : ℤ} → some z ≡ numeral 64 (trim s) → read z ≡ dimension s
+pub known : (s : Text) {z : ℤ} → some z ≡ numeral 64 (trim s) → as-read z ≡ dimension s
 known s e = ap (read-or DYNAMIC) e ∙ sym (by-test s refl refl false (no-question (trim s) e))
 
 -- a part of k bytes says what stands before its separator

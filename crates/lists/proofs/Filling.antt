@@ -8,21 +8,12 @@ use native.Mathlib.Omega.{arith}
 use lib.IntN.{ℤ, pos}
 use lib.ListN.{length, take, getD, set}
 use lib.Seq.{take-suc, take-all, length-take-le}
-use Rattle.meaning.specs.Found.{padded, filled, lacking}
+use Rattle.meaning.specs.Found.{padded, filled}
 use Rattle.meaning.specs.Views.{count-up}
 use Rattle.lists.specs.Laid.{Laid, laid}
-use Rattle.lists.specs.Push.{any}
+use Rattle.lists.specs.Push.{filled-row}
+use Rattle.lists.specs.declared.row.Row.{Row}
 use Rattle.lists.proofs.Laying.{slot}
-
--- ── whether there is any ──
-
-pub any-some : (n : ℕ) → (n ≡ 0 → ⊥) → 1 ≡ any n
-any-some zero h = absurd (h refl)
-any-some (suc n) h = refl
-
-lacking-any : (zs : List ℤ) → lacking (filled zs) ≡ any (length zs)
-lacking-any [] = refl
-lacking-any (z ∷ zs) = refl
 
 -- ── the array ──
 
@@ -53,13 +44,13 @@ module _ (w : ℕ) (zs : List ℤ) where
     pub pass : length zs ≤ i → vs′ ≡ vs → Filled vs′ (i + 1)
     pass k q = record { low = omega arith; is = q ∙ g .is ∙ ap (padded w) (take-all i zs k ∙ sym (take-all (i + 1) zs (omega arith))) }
 
-  pub whole : {vs : List ℤ} {i n f : ℕ} → Filled vs i → w ≤ i → n ≡ length zs → f ≡ any n
-      → _≡_ {A = Laid} (record { values = vs; len = n; fell = 0; filled = f }) (laid w (filled zs))
+  pub whole : {vs : List ℤ} {i n : ℕ} {r : Row} → Filled vs i → w ≤ i → n ≡ length zs → r ≡ filled-row n
+      → _≡_ {A = Laid} (record { values = vs; row = r }) (laid w (filled zs))
   whole {i = i} g h m a =
       let e : i ≡ w = omega (arith, g .low) in
       let v = g .is ∙ ap (λ (j : ℕ). padded w (take j zs)) e ∙ cut-off w zs in
-      let l = a ∙ ap any m ∙ sym (lacking-any zs) in
-      λ j. record { values = v j; len = m j; fell = 0; filled = l j }
+      let l = a ∙ ap filled-row m in
+      λ j. record { values = v j; row = l j }
 
 -- ── counting up ──
 

@@ -1,6 +1,7 @@
 -- Lists laid into arrays, over the capacity: one entry more, and what a loop over the parts between the bytes x keeps.
 -- The parts that are passed stand in what is kept; the list so far is laid from them.
 use mathlib.Core.Path.{_≡_, refl, sym, ap, subst, _∙_}
+use mathlib.Core.Bool.{true}
 use mathlib.Core.List as L
 use mathlib.Core.List.{List, [], _∷_, _++_, append-assoc, map-append}
 use Prim.Native.Nat.{ℕ, zero, suc, _+_, _-_, _≤_, _<_}
@@ -15,49 +16,51 @@ use Rattle.lexis.proofs.Lists.{rest}
 use Rattle.lexis.proofs.Seeking.{until-take}
 use Rattle.lexis.proofs.Splitting.{split-more, split-last, split-some, tail}
 use Rattle.meaning.specs.Parts.{last, front}
-use Rattle.meaning.specs.Found.{Entry, read, fell, stands, value, padded, fallen, unused}
+use Rattle.meaning.specs.Found.{Came, read, fell, Entry, stands, padded, counted, fallen, unused}
 use Rattle.lists.specs.Laid.{Laid, laid}
-use Rattle.lists.specs.Push.{put, push}
+use Rattle.lists.specs.Push.{told, push}
+use Rattle.lists.specs.declared.row.Tally.{Tally}
 
 -- ── one entry more ──
+
+abbrev pub value : Entry → ℤ
+value e = e .value
 
 pub slot : (n : ℕ) (zs : List ℤ) (z : ℤ) → set (padded n zs) (length zs) z ≡ padded n (zs ++ z ∷ [])
 slot zero zs z = refl
 slot (suc n) [] z = refl
 slot (suc n) (y ∷ ys) z = ap (λ (l : List ℤ). y ∷ l) (slot n ys z)
 
-read-more : (es : List Entry) (z : ℤ) → fallen es + 0 ≡ fallen (es ++ read z ∷ [])
-read-more [] z = refl
-read-more (read y ∷ es) z = read-more es z
-read-more (fell y ∷ es) z = let h : fallen es + 0 ≡ fallen (es ++ read z ∷ []) = read-more es z in omega arith
+counted-more : (es : List Entry) (e : Entry) → fallen es + counted (e .came) ≡ fallen (es ++ e ∷ [])
+counted-more [] e = omega arith
+counted-more (f ∷ es) e = let h : fallen es + counted (e .came) ≡ fallen (es ++ e ∷ []) = counted-more es e in omega arith
 
-fell-more : (es : List Entry) (z : ℤ) → fallen es + 1 ≡ fallen (es ++ fell z ∷ [])
-fell-more [] z = refl
-fell-more (read y ∷ es) z = fell-more es z
-fell-more (fell y ∷ es) z = let h : fallen es + 1 ≡ fallen (es ++ fell z ∷ []) = fell-more es z in omega arith
-
--- a value more is laid as an entry more, where it counts as that entry does
-more : (w : ℕ) (es : List Entry) (e : Entry) (n : ℕ) → fallen es + n ≡ fallen (es ++ e ∷ []) → put (laid w (stands es)) (value e) n ≡ laid w (stands (es ++ e ∷ []))
-more w es e n h =
-    let m : L.map value (es ++ e ∷ []) ≡ L.map value es ++ value e ∷ [] = map-append value es (e ∷ []) in
-    let k : length (L.map value es) + 1 ≡ length (L.map value es ++ value e ∷ []) = sym (length-append (L.map value es) (value e ∷ [])) in
-    λ i. record {
-      values = (slot w (L.map value es) (value e) ∙ ap (padded w) (sym m)) i;
-      len = (k ∙ ap length (sym m)) i;
-      fell = h i;
-      filled = 0;
-    }
+told-is : (n : ℕ) (c : Came) → told (record { fell = n }) c ≡ record { fell = n + counted c }
+told-is n read = ap {B = Tally} (λ (m : ℕ). record { fell = m }) {x = n} {y = n + 0} (omega arith)
+told-is n fell = refl
 
 pub laid-more : (w : ℕ) (es : List Entry) (e : Entry) → push (laid w (stands es)) e ≡ laid w (stands (es ++ e ∷ []))
-laid-more w es (read z) = more w es (read z) 0 (read-more es z)
-laid-more w es (fell z) = more w es (fell z) 1 (fell-more es z)
+laid-more w es e =
+    let m : L.map value (es ++ e ∷ []) ≡ L.map value es ++ e .value ∷ [] = map-append value es (e ∷ []) in
+    let k : length (L.map value es) + 1 ≡ length (L.map value es ++ e .value ∷ []) = sym (length-append (L.map value es) (e .value ∷ [])) in
+    λ i. record {
+      values = (slot w (L.map value es) (e .value) ∙ ap (padded w) (sym m)) i;
+      row = record {
+        len = (k ∙ ap length (sym m)) i;
+        stood = true;
+        tally = (told-is (fallen es) (e .came) ∙ ap {B = Tally} (λ (n : ℕ). record { fell = n }) (counted-more es e)) i;
+      };
+    }
 
 -- ── what a loop keeps ──
 
+counted-few : (c : Came) → counted c ≤ 1
+counted-few read = omega arith
+counted-few fell = omega arith
+
 pub few-of : (es : List Entry) → fallen es ≤ length (L.map value es)
 few-of [] = omega arith
-few-of (read z ∷ es) = let h : fallen es ≤ length (L.map value es) = few-of es in omega arith
-few-of (fell z ∷ es) = let h : fallen es ≤ length (L.map value es) = few-of es in omega arith
+few-of (e ∷ es) = let h : fallen es ≤ length (L.map value es) = few-of es in let k = counted-few (e .came) in omega arith
 
 pub front-of : (ps : List Text) (p : Text) → front (ps ++ p ∷ []) ≡ ps
 front-of [] p = refl
@@ -69,18 +72,14 @@ last-of [] p = refl
 last-of (q ∷ []) p = refl
 last-of (q ∷ r ∷ ps) p = last-of (r ∷ ps) p
 
-len-more : (l : Laid) (e : Entry) → push l e .len ≡ l .len + 1
-len-more l (read z) = refl
-len-more l (fell z) = refl
-
 -- at the capacity w: the parts of s that are passed, t behind them, and the list l of their entries
 module _ (w x : ℕ) (said : Text → Entry) where
   pub record Kept (s t : Text) (l : Laid) : Type 0 where
     pub passed : List Text
     pub parts : split x s ≡ passed ++ split x t
     pub is : l ≡ laid w (stands (L.map said passed))
-    pub room : l .len + length t ≤ length s
-    pub few : l .fell ≤ l .len
+    pub room : l .row .len + length t ≤ length s
+    pub few : l .row .tally .fell ≤ l .row .len
 
   pub begun : {s : Text} {l : Laid} → l ≡ laid w unused → Kept s s l
   begun e = record { passed = []; parts = refl; is = e; room = rw e (omega arith); few = rw e (omega arith) }
@@ -103,7 +102,7 @@ module _ (w x : ℕ) (said : Text → Entry) where
           ∙ sym (append-assoc (g .passed) (take k t ∷ []) (split x (drop (suc k) t)))
           ∙ ap (λ (n : ℕ). (g .passed ++ take k t ∷ []) ++ split x (drop n t)) (sym (add-one k));
       is = grown;
-      room = rw (ap (λ (m : Laid). m .len) q ∙ len-more l e, length-drop) (omega (arith, g .room));
+      room = rw (ap (λ (m : Laid). m .row .len) q, length-drop) (omega (arith, g .room));
       few = rw grown (few-of (L.map said (g .passed ++ take k t ∷ [])));
     })
 

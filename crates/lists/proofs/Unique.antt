@@ -6,6 +6,7 @@ use native.Mathlib.Omega.{arith}
 use lib.ListN.{length, length-drop}
 use Rattle.lexis.specs.Text.{Text}
 use Rattle.lexis.proofs.Unique.{One}
+use Rattle.meaning.specs.Found.{Entry, counted}
 use Rattle.lists.specs.Laid.{Laid, said64, said32, list64, list32, Fronted}
 use Rattle.lists.specs.declared.entry.Entry64.{Entry64}
 use Rattle.lists.specs.declared.entry.Entry64.the-variants as E64
@@ -30,16 +31,16 @@ use Rattle.lists.proofs.list.parse_one.Reads as parse-one
 -- ── entries ──
 
 said64-one : (e f : Entry64) → said64 e ≡ said64 f → e ≡ f
-said64-one (E64.Read z) (E64.Read y) p = let k : z ≡ y = cc in ap E64.Read k
-said64-one (E64.Read z) (E64.Fell y) p = let n : _≡_ {A = ℕ} 0 1 = cc in let f : ⊥ = omega arith in absurd f
-said64-one (E64.Fell z) (E64.Read y) p = let n : _≡_ {A = ℕ} 0 1 = cc in let f : ⊥ = omega arith in absurd f
-said64-one (E64.Fell z) (E64.Fell y) p = let k : z ≡ y = cc in ap E64.Fell k
+said64-one (E64.Read z) (E64.Read y) p = ap (λ (e : Entry). E64.Read (e .value)) p
+said64-one (E64.Read z) (E64.Fell y) p = let n = ap (λ (e : Entry). counted (e .came)) p in let f : ⊥ = omega arith in absurd f
+said64-one (E64.Fell z) (E64.Read y) p = let n = ap (λ (e : Entry). counted (e .came)) p in let f : ⊥ = omega arith in absurd f
+said64-one (E64.Fell z) (E64.Fell y) p = ap (λ (e : Entry). E64.Fell (e .value)) p
 
 said32-one : (e f : Entry32) → said32 e ≡ said32 f → e ≡ f
-said32-one (E32.Read z) (E32.Read y) p = let k : z ≡ y = cc in ap E32.Read k
-said32-one (E32.Read z) (E32.Fell y) p = let n : _≡_ {A = ℕ} 0 1 = cc in let f : ⊥ = omega arith in absurd f
-said32-one (E32.Fell z) (E32.Read y) p = let n : _≡_ {A = ℕ} 0 1 = cc in let f : ⊥ = omega arith in absurd f
-said32-one (E32.Fell z) (E32.Fell y) p = let k : z ≡ y = cc in ap E32.Fell k
+said32-one (E32.Read z) (E32.Read y) p = ap (λ (e : Entry). E32.Read (e .value)) p
+said32-one (E32.Read z) (E32.Fell y) p = let n = ap (λ (e : Entry). counted (e .came)) p in let f : ⊥ = omega arith in absurd f
+said32-one (E32.Fell z) (E32.Read y) p = let n = ap (λ (e : Entry). counted (e .came)) p in let f : ⊥ = omega arith in absurd f
+said32-one (E32.Fell z) (E32.Fell y) p = ap (λ (e : Entry). E32.Fell (e .value)) p
 
 pub parse-dim-one : One parse-dim.Post
 parse-dim-one κs a x y s t p q = said64-one x y (p ∙ sym q)
@@ -50,10 +51,10 @@ parse-small-one κs a x y s t p q = said32-one x y (p ∙ sym q)
 -- ── lists ──
 
 list64-one : {l m : List64} → list64 l ≡ list64 m → l ≡ m
-list64-one e = ap {B = List64} (λ (x : Laid). record { values = x .values; len = x .len; fell = x .fell; filled = x .filled }) e
+list64-one e = ap {B = List64} (λ (x : Laid). record { values = x .values; row = x .row }) e
 
 list32-one : {l m : List32} → list32 l ≡ list32 m → l ≡ m
-list32-one e = ap {B = List32} (λ (x : Laid). record { values = x .values; len = x .len; fell = x .fell; filled = x .filled }) e
+list32-one e = ap {B = List32} (λ (x : Laid). record { values = x .values; row = x .row }) e
 
 pub none64-one : One none64.Post
 none64-one κs a x y s t p q = list64-one (p ∙ sym q)

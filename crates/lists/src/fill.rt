@@ -2,6 +2,8 @@
 use super::entry::DYNAMIC;
 use super::list::List32;
 use super::list::List64;
+use super::row::filled_in;
+use super::row::no_entry;
 use meaning::CAP;
 ghost use mathlib.Core.Path.{_≡_};
 ghost use mathlib.Core.List.{[], _∷_};
@@ -11,7 +13,6 @@ ghost use Rattle.meaning.specs.Found.{filled, unused};
 ghost use Rattle.meaning.specs.Tile.{DYNAMIC};
 ghost use Rattle.meaning.specs.Views.{count-up};
 ghost use Rattle.lists.specs.Laid.{laid, list64, list32};
-ghost use Rattle.lists.specs.Push.{any};
 
 // A list that a kind doesn't use, and every list before its first entry.
 pub fn none64() -> List64
@@ -19,9 +20,7 @@ pub fn none64() -> List64
 {
     List64 {
         values: [0i64; CAP],
-        len: 0,
-        fell: 0,
-        filled: 0,
+        row: no_entry(),
     }
 }
 
@@ -30,9 +29,7 @@ pub fn none32() -> List32
 {
     List32 {
         values: [0i32; CAP],
-        len: 0,
-        fell: 0,
-        filled: 0,
+        row: no_entry(),
     }
 }
 
@@ -50,9 +47,7 @@ pub fn dynamic(n: usize) -> List64
     }
     List64 {
         values,
-        len: n,
-        fell: 0,
-        filled: some(n),
+        row: filled_in(n),
     }
 }
 
@@ -70,9 +65,7 @@ pub fn count_up(n: usize) -> List32
     }
     List32 {
         values,
-        len: n,
-        fell: 0,
-        filled: some(n),
+        row: filled_in(n),
     }
 }
 
@@ -90,9 +83,7 @@ pub fn ones(n: usize) -> List32
     }
     List32 {
         values,
-        len: n,
-        fell: 0,
-        filled: some(n),
+        row: filled_in(n),
     }
 }
 
@@ -102,15 +93,6 @@ pub fn zero() -> List32
 {
     List32 {
         values: [0i32; CAP],
-        len: 1,
-        fell: 0,
-        filled: 1,
+        row: filled_in(1),
     }
-}
-
-// A clause that is filled in counts if it has an entry.
-fn some(n: usize) -> usize
-    ensures { λ r. ⌜ r ≡ any n ⌝ }
-{
-    if n == 0 { 0 } else { 1 }
 }

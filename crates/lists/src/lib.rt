@@ -1,7 +1,8 @@
-// Entries and lists of a type, read into arrays: the first entries up to the capacity, their true number, how many fell back.
+// Entries and lists of a type, read into arrays: the first entries up to the capacity, and a row: their true number, how they came.
 mod entry;
 mod fill;
 mod list;
+mod row;
 
 pub use entry::DYNAMIC;
 pub use entry::Entry32;
@@ -21,3 +22,5 @@ pub use list::parse_dims;
 pub use list::parse_front;
 pub use list::parse_one;
 pub use list::parse_smalls;
+pub use row::Row;
+pub use row::Tally;

@@ -7,6 +7,9 @@ use super::entry::parse_small;
 use super::entry::small_of;
 use super::fill::none32;
 use super::fill::none64;
+use super::row::Row;
+use super::row::Tally;
+use super::row::tick;
 use meaning::CAP;
 ghost use Prim.Native.Nat.{_+_, _<_, _^_};
 ghost use mathlib.Core.Path.{_≡_};
@@ -19,20 +22,16 @@ ghost use Rattle.meaning.specs.Views.{small};
 ghost use Rattle.lists.specs.Laid.{laid, said64, said32, list64, list32, smalls, Fronted};
 ghost use Rattle.lists.specs.Push.{put, push, Ahead};
 
-// A list of 64-bit entries: as its clause stands, or filled in.
+// A list of 64-bit entries: the first of them in an array, and what is told of all.
 pub struct List64 {
     pub values: [i64; CAP],
-    pub len: usize,
-    pub fell: usize,
-    pub filled: usize,
+    pub row: Row,
 }
 
 // The same of 32-bit entries.
 pub struct List32 {
     pub values: [i32; CAP],
-    pub len: usize,
-    pub fell: usize,
-    pub filled: usize,
+    pub row: Row,
 }
 
 // Dimensions, and where what follows the last of them begins.
@@ -41,59 +40,71 @@ pub struct Front {
     pub last: usize,
 }
 
-// `l` with one value more, past the capacity only counted, and `fell` more that fell back.
-fn put64(l: List64, v: i64, fell: usize) -> List64
-    requires { ⌜ (l .len + 1 < 2 ^ 64) × (l .fell + fell < 2 ^ 64) ⌝ }
-    ensures { λ r. ⌜ list64 r ≡ put (list64 l) v fell ⌝ }
+// `l` with one value more, past the capacity only counted, and the tally that is then told.
+fn put64(l: List64, v: i64, tally: Tally) -> List64
+    requires { ⌜ l .row .len + 1 < 2 ^ 64 ⌝ }
+    ensures { λ r. ⌜ list64 r ≡ put (list64 l) v tally ⌝ }
 {
     let mut values = l.values;
-    let n = l.len;
+    let row = l.row;
+    let n = row.len;
     if n < CAP { // there is room
         values[n] = v;
     }
+    let stood = row.stood;
     List64 {
         values,
-        len: n + 1,
-        fell: l.fell + fell,
-        filled: l.filled,
+        row: Row {
+            len: n + 1,
+            stood,
+            tally,
+        },
     }
 }
 
-fn put32(l: List32, v: i32, fell: usize) -> List32
-    requires { ⌜ (l .len + 1 < 2 ^ 64) × (l .fell + fell < 2 ^ 64) ⌝ }
-    ensures { λ r. ⌜ list32 r ≡ put (list32 l) v fell ⌝ }
+fn put32(l: List32, v: i32, tally: Tally) -> List32
+    requires { ⌜ l .row .len + 1 < 2 ^ 64 ⌝ }
+    ensures { λ r. ⌜ list32 r ≡ put (list32 l) v tally ⌝ }
 {
     let mut values = l.values;
-    let n = l.len;
+    let row = l.row;
+    let n = row.len;
     if n < CAP {
         values[n] = v;
     }
+    let stood = row.stood;
     List32 {
         values,
-        len: n + 1,
-        fell: l.fell + fell,
-        filled: l.filled,
+        row: Row {
+            len: n + 1,
+            stood,
+            tally,
+        },
     }
 }
 
 // `l` with one entry more.
 fn push64(l: List64, e: Entry64) -> List64
-    requires { ⌜ (l .len + 1 < 2 ^ 64) × (l .fell + 1 < 2 ^ 64) ⌝ }
+    requires { ⌜ (l .row .len + 1 < 2 ^ 64) × (l .row .tally .fell + 1 < 2 ^ 64) ⌝ }
     ensures { λ r. ⌜ list64 r ≡ push (list64 l) (said64 e) ⌝ }
 {
+    let row = l.row;
+    let tally = row.tally;
     match e {
-        Entry64::Read(v) => put64(l, v, 0),
-        Entry64::Fell(v) => put64(l, v, 1),
+        Entry64::Read(v) => put64(l, v, tally),
+        Entry64::Fell(v) => put64(l, v, tick(tally)),
     }
 }
 
 fn push32(l: List32, e: Entry32) -> List32
-    requires { ⌜ (l .len + 1 < 2 ^ 64) × (l .fell + 1 < 2 ^ 64) ⌝ }
+    requires { ⌜ (l .row .len + 1 < 2 ^ 64) × (l .row .tally .fell + 1 < 2 ^ 64) ⌝ }
     ensures { λ r. ⌜ list32 r ≡ push (list32 l) (said32 e) ⌝ }
 {
+    let row = l.row;
+    let tally = row.tally;
     match e {
-        Entry32::Read(v) => put32(l, v, 0),
-        Entry32::Fell(v) => put32(l, v, 1),
+        Entry32::Read(v) => put32(l, v, tally),
+        Entry32::Fell(v) => put32(l, v, tick(tally)),
     }
 }
 

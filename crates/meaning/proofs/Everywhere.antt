@@ -61,7 +61,7 @@ module _ (P : Found → Type 0) (r : Read P) where
       by none k = k
       by (some t) k = h .0 t
 
-  unmarked-all : (s : Text) → When P (O.unmarked s)
+  pub unmarked-all : (s : Text) → When P (O.unmarked s)
   unfolding O.unmarked
   unmarked-all s = by (same s (bytes "!cuda_tile.token") || same s (bytes "token"))
     where

@@ -2,6 +2,7 @@ pub mod Blanks
 pub mod High
 pub mod Whens
 pub mod Everywhere
+pub mod Thin
 pub mod Normality
 pub mod Unique
 pub mod Open

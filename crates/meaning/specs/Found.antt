@@ -16,10 +16,20 @@ use Rattle.meaning.specs.declared.Padding.the-variants.{Absent}
 use Rattle.meaning.specs.declared.Record.{Record}
 use Rattle.meaning.specs.declared.Note.{Note}
 
--- an entry of a list: read, or fallen back on because what stands there can't be read
-pub data Entry : Type 0 where
-  read : ℤ → Entry
-  fell : ℤ → Entry
+-- an entry was read, or fell back on a default because what stands there can't be read
+pub data Came : Type 0 where
+  read fell : Came
+
+-- an entry of a list: how it came, and its value
+pub record Entry : Type 0 where
+  pub came : Came
+  pub value : ℤ
+
+abbrev pub as-read : ℤ → Entry
+as-read z = record { came = read; value = z }
+
+abbrev pub as-fallen : ℤ → Entry
+as-fallen z = record { came = fell; value = z }
 
 -- a list of a type: as its clause stands, or filled in
 pub data Clause : Type 0 where
@@ -41,12 +51,8 @@ pub record Found : Type 0 where
 
 -- ── the flat record ──
 
-abbrev pub value : Entry → ℤ
-value (read z) = z
-value (fell z) = z
-
 abbrev pub values : Clause → List ℤ
-values (stands es) = L.map value es
+values (stands es) = L.map (λ e. e .value) es
 values (filled zs) = zs
 
 -- a list in an array of `cap` entries, blank past its length
@@ -85,10 +91,13 @@ within cap t = fits cap (t .shape) && fits cap (t .strides) && fits cap (t .tile
 -- ── the default counts ──
 
 -- entries that fell back
+abbrev pub counted : Came → ℕ
+counted read = 0
+counted fell = 1
+
 abbrev pub fallen : List Entry → ℕ
 fallen [] = 0
-fallen (read z ∷ es) = fallen es
-fallen (fell z ∷ es) = 1 + fallen es
+fallen (e ∷ es) = counted (e .came) + fallen es
 
 -- a filled-in clause adds nothing to (a) to (c)
 abbrev pub unreadable : Clause → ℕ
@@ -108,6 +117,10 @@ counts t = record {
   c = unreadable (t .map) + unreadable (t .traversal) + unreadable (t .sparse);
   d = lacking (t .strides) + lacking (t .map) + lacking (t .traversal) + lacking (t .sparse);
 }
+
+-- what is noted where no default was taken
+abbrev pub unnoted : Note
+unnoted = record { a = 0; b = 0; c = 0; d = 0 }
 
 -- ── makers ──
 

@@ -18,7 +18,7 @@ use Rattle.meaning.specs.declared.Padding.the-variants as P
 use Rattle.meaning.specs.declared.Record.{Record}
 use Rattle.meaning.specs.declared.Reading.{Reading}
 use Rattle.meaning.specs.declared.Refusal.the-variants.{Accepted, TooLong, HighByte, NotStrict, TooMany}
-use Rattle.meaning.specs.Found.{padded}
+use Rattle.meaning.specs.Found.{padded, unnoted}
 use Rattle.meaning.specs.Ordinary.{high-from, refused}
 use Rattle.meaning.specs.Decimal.{Dim, in32, in64, size}
 use Rattle.meaning.specs.Strict as S
@@ -142,7 +142,7 @@ flat-any cap a = record {
 }
 
 unfoldable pub taken : ℕ → Any → Reading
-taken cap a = record { refusal = Accepted; place = 0; value = flat-any cap a; note = record { a = 0; b = 0; c = 0; d = 0 } }
+taken cap a = record { refusal = Accepted; place = 0; value = flat-any cap a; note = unnoted }
 
 -- an ASCII text within the limit: it is strict and within the capacity, or strict and not, or not strict at any rank
 pub data Judged (cap : ℕ) (s : Text) : Reading → Type 0 where

@@ -9,7 +9,7 @@ use lib.ListN.{length}
 use Rattle.lexis.specs.Text.{Text, bytes, if_then_else_, same, trim, Cut, nowhere, at, cut}
 use Rattle.scalars.specs.Names.{scalar-name}
 use Rattle.meaning.specs.Parts.{each, bracketed, remove}
-use Rattle.meaning.specs.Found.{Found, plain, token, with-attribute, flat, within, counts}
+use Rattle.meaning.specs.Found.{Found, plain, token, with-attribute, flat, within, counts, unnoted}
 use Rattle.meaning.specs.Tile.{tile, tensor-view}
 use Rattle.meaning.specs.Views.{partition-view, gather-scatter-view, strided-view}
 use Rattle.meaning.specs.declared.Kind.the-variants as K
@@ -76,7 +76,7 @@ high-from k (b ∷ s) = if leb 128 b then some k else high-from (suc k) s
 
 -- the blank record and zero counts
 unfoldable pub refused : ℕ → Refusal → ℕ → Reading
-refused cap r place = record { refusal = r; place = place; value = flat cap token; note = record { a = 0; b = 0; c = 0; d = 0 } }
+refused cap r place = record { refusal = r; place = place; value = flat cap token; note = unnoted }
 
 unfoldable pub accepted : ℕ → Found → Reading
 accepted cap t = record { refusal = Accepted; place = 0; value = flat cap t; note = counts t }

@@ -13,7 +13,7 @@ use Rattle.numerals.specs.Numeral.{numeral}
 use Rattle.scalars.specs.Names.{scalar-name}
 use Rattle.scalars.specs.declared.scalar.Scalar.{Scalar}
 use Rattle.meaning.specs.Parts.{each, last, front, less-repeats}
-use Rattle.meaning.specs.Found.{Entry, read, fell, Clause, stands, filled, Found, made, unused}
+use Rattle.meaning.specs.Found.{Entry, as-read, as-fallen, Clause, stands, filled, Found, made, unused}
 use Rattle.meaning.specs.declared.Kind.the-variants as K
 use Rattle.meaning.specs.declared.Padding.the-variants.{Absent}
 
@@ -22,12 +22,12 @@ unfoldable pub DYNAMIC : ℤ
 DYNAMIC = negℤ (pos (2 ^ 63))
 
 abbrev pub read-or : ℤ → Option ℤ → Entry
-read-or d none = fell d
-read-or d (some z) = read z
+read-or d none = as-fallen d
+read-or d (some z) = as-read z
 
 -- an entry of a shape or of strides: `?` or an unreadable numeral gives DYNAMIC (module 1, `parse_dim`)
 unfoldable pub dimension : Text → Entry
-dimension s = if same (trim s) (bytes "?") then read DYNAMIC else read-or DYNAMIC (numeral 64 (trim s))
+dimension s = if same (trim s) (bytes "?") then as-read DYNAMIC else read-or DYNAMIC (numeral 64 (trim s))
 
 abbrev pub dimensions : List Text → Clause
 dimensions ps = stands (L.map dimension ps)

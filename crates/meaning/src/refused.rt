@@ -6,6 +6,7 @@ use crate::blank;
 use lexis::Found;
 ghost use mathlib.Core.Path.{_≡_};
 ghost use Rattle.lexis.specs.Text.{spot};
+ghost use Rattle.meaning.specs.Found.{unnoted};
 ghost use Rattle.meaning.specs.Ordinary.{high-from, refused};
 
 // The place of the first byte of 128 or more.
@@ -20,7 +21,19 @@ pub fn first_high(text: &[u8]) -> Found
     }
 }
 
-// The blank record, and no counts.
+// What is noted where no default was taken.
+pub fn no_note() -> Note
+    ensures { λ r. ⌜ r ≡ unnoted ⌝ }
+{
+    Note {
+        a: 0,
+        b: 0,
+        c: 0,
+        d: 0,
+    }
+}
+
+// The blank record, and nothing noted.
 pub fn refuse(refusal: Refusal, place: usize) -> Reading
     ensures { λ r. ⌜ r ≡ refused 8 refusal place ⌝ }
 {
@@ -29,11 +42,6 @@ pub fn refuse(refusal: Refusal, place: usize) -> Reading
         refusal,
         place,
         value,
-        note: Note {
-            a: 0,
-            b: 0,
-            c: 0,
-            d: 0,
-        },
+        note: no_note(),
     }
 }

@@ -10,11 +10,13 @@ use Rattle.meaning.specs.Refusals.{number}
 use Rattle.meaning.specs.Found.{flat, token}
 use Rattle.meaning.specs.declared.Kind.{Kind}
 use Rattle.meaning.specs.declared.Kind.the-variants as K
+use Rattle.meaning.specs.declared.Note.{Note}
 use Rattle.meaning.specs.declared.Padding.{Padding}
 use Rattle.meaning.specs.declared.Padding.the-variants.{Absent, Zero, NegZero, Nan, PosInf, NegInf}
 use Rattle.meaning.specs.declared.Reading.{Reading}
 use Rattle.meaning.specs.declared.Record.{Record}
 use Rattle.meaning.specs.Written.{_>>=_}
+use Rattle.numbers.specs.declared.TypetextNote.{TypetextNote}
 use Rattle.numbers.specs.declared.TypetextReading.{TypetextReading}
 use Rattle.numbers.specs.declared.TypetextRecord.{TypetextRecord}
 use Rattle.numbers.specs.declared.sent.Sent.{Sent}
@@ -82,14 +84,14 @@ record-numbers r = record {
   attribute = flag-number (r .attribute);
 }
 
+abbrev pub note-numbers : Note → TypetextNote
+note-numbers n = record { a = n .a; b = n .b; c = n .c; d = n .d }
+
 unfoldable pub in-numbers : Reading → TypetextReading
 in-numbers r = record {
   value = record-numbers (r .value);
   place = r .place;
-  a = r .note .a;
-  b = r .note .b;
-  c = r .note .c;
-  d = r .note .d;
+  note = note-numbers (r .note);
   refusal = number (r .refusal);
 }
 

@@ -4,6 +4,7 @@ mod sent;
 
 use meaning::CAP;
 use meaning::Kind;
+use meaning::Note;
 use meaning::Padding;
 use meaning::Reading;
 use meaning::Record;
@@ -11,7 +12,7 @@ use scalars::Scalar;
 pub use sent::Sent;
 pub use sent::of_numbers;
 ghost use mathlib.Core.Path.{_≡_};
-ghost use Rattle.numbers.specs.Numbers.{kind-number, scalar-number, padding-number, flag-number, record-numbers, in-numbers};
+ghost use Rattle.numbers.specs.Numbers.{kind-number, scalar-number, padding-number, flag-number, record-numbers, note-numbers, in-numbers};
 
 // A record in numbers, as a caller may send it.
 #[repr(C)]
@@ -34,15 +35,21 @@ pub struct TypetextRecord {
     pub attribute: u8,
 }
 
+// A note in numbers: one struct, so that what it tells more later grows here alone.
+#[repr(C)]
+pub struct TypetextNote {
+    pub a: usize,
+    pub b: usize,
+    pub c: usize,
+    pub d: usize,
+}
+
 // A reading in numbers; its value can be handed to the writer as it is.
 #[repr(C)]
 pub struct TypetextReading {
     pub value: TypetextRecord,
     pub place: usize,
-    pub a: usize,
-    pub b: usize,
-    pub c: usize,
-    pub d: usize,
+    pub note: TypetextNote,
     pub refusal: u8,
 }
 
@@ -134,6 +141,17 @@ fn record_numbers(v: Record) -> TypetextRecord
     }
 }
 
+fn note_numbers(n: Note) -> TypetextNote
+    ensures { λ r. ⌜ r ≡ note-numbers n ⌝ }
+{
+    TypetextNote {
+        a: n.a,
+        b: n.b,
+        c: n.c,
+        d: n.d,
+    }
+}
+
 pub fn in_numbers(r: Reading) -> TypetextReading
     ensures { λ n. ⌜ n ≡ in-numbers r ⌝ }
 {
@@ -143,10 +161,7 @@ pub fn in_numbers(r: Reading) -> TypetextReading
     TypetextReading {
         value: record_numbers(v),
         place: r.place,
-        a: note.a,
-        b: note.b,
-        c: note.c,
-        d: note.d,
+        note: note_numbers(note),
         refusal: refusal.number(),
     }
 }

@@ -9,7 +9,7 @@ ghost use Rattle.meaning.specs.Ordinary.{ordinary};
 pub fn parse(text: &[u8]) -> Reading
     ensures { λ r. ⌜ r ≡ ordinary 8 1024 (now (text .entry)) ⌝ }
 {
-    let t = &text[..]; // handed on as two words (decision 55)
+    let t = &text[0..]; // all of it, handed on as two words (decision 55)
     let r = strict::parse_strict(t);
     let refusal = r.refusal;
     if refusal.number() != 5 {

@@ -1,4 +1,4 @@
--- Laws of bracket cutting: the place of the matching `>` byte by byte, a `>` at the end, and for callers the content by its length.
+-- Laws of bracket cutting: a `>` at the end, and for callers the content by its length.
 use Prim.Native.Nat.{ℕ, zero, suc, _+_, _-_, _≤_, _<_}
 use native.Mathlib.Nat.{suc-add, add-zero}
 use native.Mathlib.Numerals.{add-one, sub-one}
@@ -16,80 +16,6 @@ use Rattle.lexis.proofs.Lists.{view, behind, rest}
 use Rattle.lexis.proofs.Seeking.{shifted, unshifted, Reach, begins-within, after-drop}
 use Rattle.lexis.proofs.Passing.{shifted-twice, one-later}
 use Rattle.meaning.specs.Parts.{each, shallower, depth, close, less-final, content-by, content, bracketed}
-
--- ── how many brackets stand open after a byte b ──
-
-module _ (d b : ℕ) where
-  pub deeper : b ≡ 60 → depth d b ≡ some (d + 1)
-  deeper e = rw (e, add-one d)
-
-  pub level : (b ≡ 60 → ⊥) → (b ≡ 62 → ⊥) → depth d b ≡ some d
-  level e f = rw (ne-eqb b 60 e, ne-eqb b 62 f)
-
-  pub closes : b ≡ 62 → d ≡ 0 → depth d b ≡ none
-  closes e f = rw (e, f)
-
-  pub shallow : b ≡ 62 → (d ≡ 0 → ⊥) → depth d b ≡ some (d - 1)
-  shallow e f = rw e (by d f)
-    where
-      by : (d : ℕ) → (d ≡ 0 → ⊥) → depth d 62 ≡ some (d - 1)
-      by zero f = absurd (f refl)
-      by (suc d) f = rw sub-one
-
--- ── the matching bracket, one byte at a time ──
-
--- the place of the match in the whole text, with d brackets open before the byte i
-abbrev pub match : List ℕ → ℕ → ℕ → Option ℕ
-match s d i = shifted i (place (close d (drop i s)))
-
--- the same, by what stands open after that byte
-abbrev pub next : List ℕ → ℕ → Option ℕ → Option ℕ
-next s i none = some i
-next s i (some e) = match s e (i + 1)
-
-further : (b i : ℕ) (c : Cut) → shifted i (place (later b c)) ≡ shifted (i + 1) (place c)
-further b i nowhere = refl
-further b i (at u t) = ap some (omega arith)
-
-module _ (s : List ℕ) (d i : ℕ) where
-  pub step : (o : Option ℕ) → i < length s → depth d (getD s i 0) ≡ o → match s d i ≡ next s i o
-  step o h p = rw (view s i h) (by (depth d (getD s i 0)) ∙ ap (next s i) p)
-    where
-      by : (o : Option ℕ) → shifted i (place (elim o [ none ↦ at [] (drop (i + 1) s) | some e ↦ later (getD s i 0) (close e (drop (i + 1) s)) ])) ≡ next s i o
-      by none = ap some (add-zero i)
-      by (some e) = further (getD s i 0) i (close e (drop (i + 1) s))
-
-  pub ended : length s ≤ i → match s d i ≡ none
-  ended h = rw (drop-of-length-le s h)
-
--- what is no bracket changes nothing
-passing : (d : ℕ) (x y : Bool) → x || y ≡ false → (if x then some (suc d) else if y then shallower d else some d) ≡ some d
-passing d true y e = absurd (false≢true (sym e))
-passing d false true e = absurd (false≢true (sym e))
-passing d false false e = refl
-
-abbrev far : List ℕ → ℕ
-far l = length (until (either 60 62) l)
-
-over : (d : ℕ) (l : List ℕ) → place (close d l) ≡ shifted (far l) (place (close d (drop (far l) l)))
-over d [] = unshifted (place (close d []))
-over d (b ∷ l) = by (either 60 62 b) refl (over d l)
-  where
-    n : Bool → ℕ
-    n k = length (if k then [] else b ∷ until (either 60 62) l)
-
-    by : (k : Bool) → either 60 62 b ≡ k → place (close d l) ≡ shifted (far l) (place (close d (drop (far l) l)))
-        → place (close d (b ∷ l)) ≡ shifted (n k) (place (close d (drop (n k) (b ∷ l))))
-    by true e o = unshifted (place (close d (b ∷ l)))
-    by false e o = ap (λ (z : Option ℕ). place (elim z [ none ↦ at [] l | some e ↦ later b (close e l) ])) (passing d (eqb b 60) (eqb b 62) e)
-        ∙ one-later b (close d l) ∙ ap (shifted 1) o ∙ shifted-twice 1 (far l) (place (close d (drop (far l) l)))
-        ∙ ap (λ (k : ℕ). shifted k (place (close d (drop (far l) l)))) (omega arith)
-
--- from k on, the next bracket is at i
-pub sought : (s : List ℕ) (d k i : ℕ) → i ≡ k + far (drop k s) → match s d k ≡ match s d i
-sought s d k i e = ap (shifted k) (over d (drop k s)) ∙ shifted-twice k (far (drop k s)) (place (close d (drop (far (drop k s)) (drop k s))))
-    ∙ ap (λ (t : List ℕ). shifted (k + far (drop k s)) (place (close d t))) (drop-drop (far (drop k s)) k s)
-    ∙ ap (λ (n : ℕ). match s d n) (sym e)
 
 -- ── a `>` at the end ──
 

@@ -18,11 +18,9 @@ use Rattle.meaning.specs.Views as W
 use Rattle.meaning.specs.declared.Padding.{Padding}
 use Rattle.meaning.specs.declared.Padding.the-variants.{Absent, Zero, NegZero, Nan, PosInf, NegInf}
 use Rattle.lists.specs.Laid.{Laid, laid, smalls}
-use Rattle.lists.proofs.Bounds.{smalls-within, one-within}
-use Rattle.port.specs.Shown.{Few, Reads, listing, List-is, list-laid}
+use Rattle.port.specs.Carried.{listing, List-is, list-laid}
 use Rattle.port.specs.declared.views.Closed.{Closed}
 use Rattle.port.specs.declared.views.Closed.the-variants as C
-use Rattle.port.proofs.Building.{few, few-laid}
 
 -- ── the padding: the code asks for `neg_zero` first ──
 
@@ -91,26 +89,16 @@ module _ (p s : Text) where
   pub list-absent : place (cut p s) ≡ none → List-is s C.Absent (W.list-after p s)
   list-absent e = record { is = sym (ap W.list-by (cut-nowhere p s e)); inside = tt }
 
--- ── entries, and lists that fill in ──
+-- ── entries ──
 
-pub few-filled : {l : Laid} (zs : List ℤ) → l ≡ laid 8 (filled zs) → Few l
-few-filled zs e = few-laid (filled zs) e (omega arith)
-
-module _ {l : Laid} (x : ℕ) (s : Text) (d : ℤ) (h : length s ≤ 1024) where
-  pub few-smalls : l ≡ laid 8 (smalls d (split x s)) → Few l
-  few-smalls e = few (smalls-within 8 x s d e) (omega arith)
-
-pub few-part : {l : Laid} (x : ℕ) (s : Text) (a e : ℕ) (d : ℤ) → length s ≤ 1024 → l ≡ laid 8 (smalls d (split x (take (e - a) (drop a s)))) → Few l
-few-part x s a e d h = few-smalls x (take (e - a) (drop a s)) d (simp (length-take, length-drop) (omega arith))
-
-module _ {l : Laid} (s : Text) (h : length s ≤ 1024) where
-  pub tile-crossed : occurs (bytes "x") s ≡ true → l ≡ laid 8 (smalls (pos 1) (split 120 s)) → Reads l (stands (W.tile-entries s))
+module _ {l : Laid} (s : Text) where
+  pub tile-crossed : occurs (bytes "x") s ≡ true → l ≡ laid 8 (smalls (pos 1) (split 120 s)) → l ≡ laid 8 (stands (W.tile-entries s))
   unfolding W.tile-entries
-  tile-crossed t e = record { is = rw t e; few = few-smalls 120 s (pos 1) h e }
+  tile-crossed t e = rw t e
 
-  pub tile-listed : occurs (bytes "x") s ≡ false → l ≡ laid 8 (smalls (pos 1) (split 44 s)) → Reads l (stands (W.tile-entries s))
+  pub tile-listed : occurs (bytes "x") s ≡ false → l ≡ laid 8 (smalls (pos 1) (split 44 s)) → l ≡ laid 8 (stands (W.tile-entries s))
   unfolding W.tile-entries
-  tile-listed t e = record { is = rw t e; few = few-smalls 44 s (pos 1) h e }
+  tile-listed t e = rw t e
 
 pub entries-are : {l : Laid} (s : Text) → l ≡ laid 8 (smalls (pos 0) (split 44 s)) → l ≡ laid 8 (W.entries s)
 unfolding W.entries
@@ -135,23 +123,17 @@ module _ {l : Laid} (s : Text) where
   module _ (i : ℕ) (e : place (cut (bytes "sparse_dim=") s) ≡ some i) (t : Text) (r : t ≡ take (length s - (i + 11)) (drop (i + 11) s)) where
     -- what stands before `>` in what stands before `,`
     pub sparse-read : (k n : ℕ) → k ≡ length (until (eqb 44) t) → n ≡ length (until (eqb 62) (take k t))
-        → l ≡ laid 8 (stands (W.small (pos 0) (take n (take k t)) ∷ [])) → Reads l (W.sparse-by (cut (bytes "sparse_dim=") s))
+        → l ≡ laid 8 (stands (W.small (pos 0) (take n (take k t)) ∷ [])) → l ≡ laid 8 (W.sparse-by (cut (bytes "sparse_dim=") s))
     sparse-read k n f g h =
         let a : take k t ≡ until (eqb 44) t = rw f (until-take (eqb 44) t) in
         let b : take n (take k t) ≡ until (eqb 62) (take k t) = rw g (until-take (eqb 62) (take k t)) in
         let d : take n (take k t) ≡ until W.ends-sparse (drop (i + 11) s) =
         b ∙ ap (until (eqb 62)) a ∙ sym (either t) ∙ ap (until W.ends-sparse) (r ∙ rest s (i + 11)) in
-        record {
-          is = h ∙ ap (λ (u : Text). laid 8 (stands (W.small (pos 0) u ∷ []))) d ∙
-              sym (ap (λ (c : Cut). laid 8 (W.sparse-by c)) (cut-at (bytes "sparse_dim=") s i e));
-          few = few (one-within 8 (W.small (pos 0) (take n (take k t))) h) (omega arith);
-        }
+        h ∙ ap (λ (u : Text). laid 8 (stands (W.small (pos 0) u ∷ []))) d ∙
+        sym (ap (λ (c : Cut). laid 8 (W.sparse-by c)) (cut-at (bytes "sparse_dim=") s i e))
 
-  pub sparse-absent : place (cut (bytes "sparse_dim=") s) ≡ none → l ≡ laid 8 (filled (pos 0 ∷ [])) → Reads l (W.sparse-by (cut (bytes "sparse_dim=") s))
-  sparse-absent e h = record {
-    is = h ∙ sym (ap (λ (c : Cut). laid 8 (W.sparse-by c)) (cut-nowhere (bytes "sparse_dim=") s e));
-    few = few-filled (pos 0 ∷ []) h;
-  }
+  pub sparse-absent : place (cut (bytes "sparse_dim=") s) ≡ none → l ≡ laid 8 (filled (pos 0 ∷ [])) → l ≡ laid 8 (W.sparse-by (cut (bytes "sparse_dim=") s))
+  sparse-absent e h = h ∙ sym (ap (λ (c : Cut). laid 8 (W.sparse-by c)) (cut-nowhere (bytes "sparse_dim=") s e))
 
 -- ── a list, or what fills in for it ──
 

@@ -1,14 +1,12 @@
 -- Laws of the dispatch: the forms that were passed over, the form that applies and decides, a bare name at last; and both
 -- spellings of a form read as one, `!cuda_tile.` taken off.
-use Prim.Native.Nat.{_≤_}
-use native.Mathlib.Omega.{arith}
 use mathlib.Core.Bool.{Bool, true, false, _&&_, _||_, false≢true}
 use mathlib.Core.List.{List, [], _∷_, _++_}
 use mathlib.Core.Option.{Option, none, some}
 use mathlib.Core.Path.{_≡_, refl, subst, sym, ap, _∙_}
 use lib.Dec.{eqb}
 use borrow.Author.Tests.{eqb-true}
-use lib.ListN.{length, drop, length-drop}
+use lib.ListN.{length, drop}
 use Rattle.lexis.specs.Text.{Text, bytes, if_then_else_, same, begins}
 use Rattle.scalars.specs.Names.{scalar-name}
 use Rattle.scalars.specs.declared.scalar.Scalar.{Scalar}
@@ -17,21 +15,21 @@ use Rattle.meaning.specs.Found.{Found, plain, token}
 use Rattle.meaning.specs.Parts.{each, bracketed}
 use Rattle.meaning.specs.Ordinary.{pointer, Form, by-forms, forms, unmarked}
 use Rattle.meaning.specs.declared.Kind.the-variants as K
-use Rattle.port.specs.Shown.{Shown, shown, Told}
+use Rattle.port.specs.Carried.{Carried, carried, Told}
 use Rattle.port.specs.Forms.{shorthand, unprefixed, bare, first-of}
-use Rattle.port.specs.declared.types.Applied.{Applied}
-use Rattle.port.proofs.Bracketing.{bracketed-within, bracketed-none}
+use Rattle.port.specs.declared.brackets.Applied.{Applied}
+use Rattle.port.proofs.Bracketing.{bracketed-none}
 use Rattle.lexis.proofs.Seeking.{turned}
 
 -- ── a name ──
 
-module _ {x : Option Shown} {o : Option Scalar} (s : Text) (g : scalar-name s ≡ o) where
-  pub bare-named : x ≡ each (shown 8) (each (plain K.Scalar) o) → x ≡ each (shown 8) (each (plain K.Scalar) (scalar-name s))
-  bare-named e = e ∙ ap (λ (o : Option Scalar). each (shown 8) (each (plain K.Scalar) o)) (sym g)
+module _ {x : Option Carried} {o : Option Scalar} (s : Text) (g : scalar-name s ≡ o) where
+  pub bare-named : x ≡ each (carried 8) (each (plain K.Scalar) o) → x ≡ each (carried 8) (each (plain K.Scalar) (scalar-name s))
+  bare-named e = e ∙ ap (λ (o : Option Scalar). each (carried 8) (each (plain K.Scalar) o)) (sym g)
 
-  pub pointer-named : x ≡ each (shown 8) (each (plain K.Pointer) o) → x ≡ each (shown 8) (pointer s)
+  pub pointer-named : x ≡ each (carried 8) (each (plain K.Pointer) o) → x ≡ each (carried 8) (pointer s)
   unfolding pointer
-  pointer-named e = e ∙ ap (λ (o : Option Scalar). each (shown 8) (each (plain K.Pointer) o)) (sym g)
+  pointer-named e = e ∙ ap (λ (o : Option Scalar). each (carried 8) (each (plain K.Pointer) o)) (sym g)
 
 -- ── the forms in order ──
 
@@ -44,10 +42,6 @@ module _ {p s : Text} {r : Applied} (e : Told p s r) where
 
   pub unapplied : r .applies ≡ false → bracketed p s ≡ none
   unapplied t = bracketed-none p s (by false t)
-
-  -- a content is no longer than the text
-  pub inside : (t : Text) → bracketed p s ≡ some t → length t ≤ length s
-  inside t q = omega (arith, bracketed-within p s (length t) (ap (each length) q))
 
 -- no form before fs applies
 pub record Tried (all : List Form) (d : Option Found) (t : Text) (fs : List Form) : Type 0 where
@@ -63,13 +57,13 @@ module _ {all : List Form} {d : Option Found} {t : Text} {f : Form} {fs : List F
   pub past : {r : Applied} → Told (bytes (f .opens)) t r → r .applies ≡ false → Tried all d t fs
   past e h = record { same = next none (unapplied e h) }
 
-  pub decides : {x : Option Shown} (u : Text) → bracketed (bytes (f .opens)) t ≡ some u → x ≡ each (shown 8) (f .content u)
-      → x ≡ each (shown 8) (first-of all t d)
-  decides u e q = q ∙ sym (ap (each (shown 8)) (next (some u) e))
+  pub decides : {x : Option Carried} (u : Text) → bracketed (bytes (f .opens)) t ≡ some u → x ≡ each (carried 8) (f .content u)
+      → x ≡ each (carried 8) (first-of all t d)
+  decides u e q = q ∙ sym (ap (each (carried 8)) (next (some u) e))
 
-module _ {all fs : List Form} {d : Option Found} {t : Text} {x : Option Shown} where
-  pub at-last : Tried all d t fs → x ≡ each (shown 8) (first-of fs t d) → x ≡ each (shown 8) (first-of all t d)
-  at-last g q = q ∙ sym (ap (each (shown 8)) (g .same))
+module _ {all fs : List Form} {d : Option Found} {t : Text} {x : Option Carried} where
+  pub at-last : Tried all d t fs → x ≡ each (carried 8) (first-of fs t d) → x ≡ each (carried 8) (first-of all t d)
+  at-last g q = q ∙ sym (ap (each (carried 8)) (g .same))
 
 -- ── both spellings ──
 
@@ -128,14 +122,7 @@ fronted (c ∷ p) (b ∷ s) e = by (eqb c b) refl (fronted p s) e
     by true h f e = let g = f e in let k = eqb-true c b h in λ i. k i ∷ g i
     by false h f e = absurd (false≢true e)
 
-pub no-longer : (s : Text) → length (unprefixed s) ≤ length s
-no-longer s = by (begins (bytes "!cuda_tile.") s)
-  where
-    by : (d : Bool) → length (if d then drop 11 s else s) ≤ length s
-    by true = let e = length-drop 11 s in omega arith
-    by false = omega arith
-
-pub spelled : (s : Text) → unmarked s ≡ named s (unprefixed s)
+spelled : (s : Text) → unmarked s ≡ named s (unprefixed s)
 spelled s = by (begins (bytes "!cuda_tile.") s) refl
   where
     by : (d : Bool) → begins (bytes "!cuda_tile.") s ≡ d → unmarked s ≡ named s (if d then drop 11 s else s)
@@ -143,9 +130,9 @@ spelled s = by (begins (bytes "!cuda_tile.") s) refl
     by false e = short s e
 
 module _ (s : Text) where
-  pub is-token : same (unprefixed s) (bytes "token") ≡ true → some (shown 8 (plain K.Token I1)) ≡ each (shown 8) (unmarked s)
+  pub is-token : same (unprefixed s) (bytes "token") ≡ true → some (carried 8 (plain K.Token I1)) ≡ each (carried 8) (unmarked s)
   unfolding token
-  is-token e = sym (ap (each (shown 8)) (spelled s ∙ ap (λ (d : Bool). if d then some token else first-of shorthand (unprefixed s) (bare s)) e))
+  is-token e = sym (ap (each (carried 8)) (spelled s ∙ ap (λ (d : Bool). if d then some token else first-of shorthand (unprefixed s) (bare s)) e))
 
   pub no-token : same (unprefixed s) (bytes "token") ≡ false → first-of shorthand (unprefixed s) (bare s) ≡ unmarked s
   no-token e = sym (spelled s ∙ ap (λ (d : Bool). if d then some token else first-of shorthand (unprefixed s) (bare s)) e)

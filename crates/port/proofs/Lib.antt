@@ -1,14 +1,21 @@
--- Laws that the proofs of the functions cite, and those that callers need.
+-- Laws that the proofs of the functions cite.
+pub mod Seeing
+pub mod Sighting
+pub mod Behinding
+pub mod Depth
+pub mod Keeping
+pub mod Placing
 pub mod Bracketing
+pub mod Contents
 pub mod Building
-pub mod Clauses
+pub mod Making
 pub mod Cutting
-pub mod Dispatching
-pub mod Judging
-pub mod Marking
-pub mod Removal
-pub mod Repeating
-pub mod Sights
-pub mod Spotting
 pub mod Tiling
+pub mod Clauses
+pub mod Sights
+pub mod Dispatching
+pub mod Repeating
+pub mod Removal
+pub mod Spotting
+pub mod Marking
 pub mod Unique

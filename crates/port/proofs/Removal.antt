@@ -107,6 +107,14 @@ module _ {f : Found} (t : List ℕ) (e : spot f ≡ place (cut mark t)) where
   pub unseen : f ≡ Nowhere → place (cut sought t) ≡ none
   unseen g = ap (λ (m : List ℕ). place (cut m t)) (sym mark-is) ∙ sym e ∙ ap spot g
 
+-- the first place, as it was told
+module _ (t : List ℕ) {i : ℕ} (e : place (cut mark t) ≡ some i) where
+  pub first-sought : place (cut sought t) ≡ some i
+  first-sought = ap (λ (m : List ℕ). place (cut m t)) (sym mark-is) ∙ e
+
+  pub first-within : i + 27 ≤ length t
+  first-within = cut-within sought t i first-sought
+
 pub mark-length : length mark ≡ 27
 unfolding mark
 mark-length = refl

@@ -1,117 +1,110 @@
-// A type that was found, laid out as a record with its counts.
-use lists::List32;
-use lists::List64;
-use meaning::Kind;
+// Record and note of a type that was found: here alone they are put together.
+use super::found::Parsed;
+use lists::Row;
+use meaning::CAP;
 use meaning::Note;
-use meaning::Padding;
+use meaning::Reading;
 use meaning::Record;
-use scalars::Scalar;
+use meaning::Refusal;
+use meaning::refuse;
 ghost use mathlib.Core.Path.{_≡_};
-ghost use mathlib.Core.Option.{Option, none, some};
-ghost use Rattle.meaning.specs.Found.{unused};
-ghost use Rattle.meaning.specs.declared.Padding.the-variants.{Absent};
-ghost use Rattle.lists.specs.Laid.{laid, list64, list32};
-ghost use Rattle.port.specs.Shown.{said, built, Few};
+ghost use mathlib.Core.Bool.{true};
+ghost use Rattle.port.specs.Carried.{parts, said, lacks, noted, recorded, lengths-within, answered, Few, Sound};
 
-// What a reading found: nothing, or a record with its counts. Lengths are true numbers of entries, also past the capacity.
-pub struct Parsed {
-    pub found: bool,
-    pub value: Record,
-    pub note: Note,
+// No list has over eight entries.
+fn within(p: Parsed) -> bool
+    ensures { λ e. ⌜ e ≡ lengths-within 8 (parts p) ⌝ }
+{
+    let a = p.shape.row;
+    let b = p.strides.row;
+    let c = p.tile.row;
+    let d = p.map.row;
+    let e = p.traversal.row;
+    (a.len <= CAP) & (b.len <= CAP) & (c.len <= CAP) & (d.len <= CAP) & (e.len <= CAP)
 }
 
-pub(crate) fn nothing() -> Parsed
-    ensures { λ r. ⌜ said r ≡ none ⌝ }
+// A whole clause that was filled in counts once; one without an entry fills nothing in.
+fn lacks(r: Row) -> usize
+    ensures { λ n. ⌜ n ≡ lacks r ⌝ }
 {
-    let value = meaning::blank();
-    Parsed {
-        found: false,
-        value,
-        note: Note {
-            a: 0,
-            b: 0,
-            c: 0,
-            d: 0,
-        },
+    if r.stood {
+        return 0;
+    }
+    if r.len == 0 { 0 } else { 1 }
+}
+
+// What is noted of all lists.
+fn noted(p: Parsed) -> Note
+    requires { ⌜ Few (parts p) ⌝ }
+    ensures { λ r. ⌜ r ≡ noted (parts p) ⌝ }
+{
+    let shape = p.shape.row;
+    let strides = p.strides.row;
+    let tile = p.tile.row;
+    let map = p.map.row;
+    let traversal = p.traversal.row;
+    let sparse = p.sparse.row;
+    Note {
+        a: shape.tally.fell + strides.tally.fell,
+        b: tile.tally.fell,
+        c: map.tally.fell + traversal.tally.fell + sparse.tally.fell,
+        d: lacks(strides) + lacks(map) + lacks(traversal) + lacks(sparse),
     }
 }
 
-// A type with the lists of a tensor and of a view.
-pub(crate) fn made(
-    kind: Kind,
-    element: Scalar,
-    pointer: bool,
-    shape: List64,
-    strides: List64,
-    tile: List32,
-    map: List32,
-    traversal: List32,
-    sparse: List32,
-    padding: Padding,
-) -> Parsed
-    requires { ⌜ Few (list64 shape) × Few (list64 strides) × Few (list32 tile) × Few (list32 map) × Few (list32 traversal) × Few (list32 sparse) ⌝ }
-    ensures { λ r. ⌜ said r ≡ some (built kind element pointer (list64 shape) (list64 strides) (list32 tile) (list32 map) (list32 traversal) (list32 sparse) padding) ⌝ }
+fn recorded(p: Parsed, attribute: bool) -> Record
+    ensures { λ r. ⌜ r ≡ recorded attribute (parts p) ⌝ }
 {
-    let a = shape.values;
-    let b = strides.values;
-    let c = tile.values;
-    let d = map.values;
-    let e = traversal.values;
-    let f = sparse.values;
-    let z = f[0];
-    let value = Record {
-        kind, // that of the form
-        element,
-        pointer,
-        attribute: false,
-        shape: a,
-        shape_len: shape.len,
-        strides: b,
-        strides_len: strides.len,
-        tile: c,
-        tile_len: tile.len,
-        map: d,
-        map_len: map.len,
-        traversal: e,
-        traversal_len: traversal.len,
-        sparse: z,
-        padding,
-    };
-    let note = Note {
-        a: shape.fell + strides.fell,
-        b: tile.fell,
-        c: map.fell + traversal.fell + sparse.fell,
-        d: strides.filled + map.filled + traversal.filled + sparse.filled,
-    };
-    Parsed {
-        found: true,
-        value,
-        note,
-    }
-}
-
-// A type without a view's lists.
-pub(crate) fn simple(
-    kind: Kind,
-    element: Scalar,
-    pointer: bool,
-    shape: List64,
-    strides: List64,
-) -> Parsed
-    requires { ⌜ Few (list64 shape) × Few (list64 strides) ⌝ }
-    ensures { λ r. ⌜ said r ≡ some (built kind element pointer (list64 shape) (list64 strides) (laid 8 unused) (laid 8 unused) (laid 8 unused) (laid 8 unused) Absent) ⌝ }
-{
-    let l = lists::none32();
-    made(
-        kind,
-        element,
-        pointer,
+    let a = p.shape;
+    let b = p.strides;
+    let c = p.tile;
+    let d = p.map;
+    let e = p.traversal;
+    let shape = a.values;
+    let strides = b.values;
+    let tile = c.values;
+    let map = d.values;
+    let traversal = e.values;
+    let one = p.sparse.values;
+    let sparse = one[0];
+    let kind = p.kind;
+    let element = p.element;
+    let padding = p.padding;
+    Record {
+        shape_len: a.row.len,
+        strides_len: b.row.len,
+        tile_len: c.row.len,
+        map_len: d.row.len,
+        traversal_len: e.row.len,
         shape,
         strides,
-        l,
-        l,
-        l,
-        l,
-        Padding::Absent,
-    )
+        tile,
+        map,
+        traversal,
+        sparse,
+        kind,
+        element,
+        padding,
+        pointer: p.pointer,
+        attribute,
+    }
+}
+
+// The reading of what was found, with the attribute or without: refusal 3, then 4.
+pub(crate) fn made(p: Parsed, attribute: bool) -> Reading
+    requires { ⌜ (p .found ≡ true → Sound (parts p)) ⌝ }
+    ensures { λ r. ⌜ r ≡ answered attribute (said p) ⌝ }
+{
+    if !p.found {
+        return refuse(Refusal::NoType, 0);
+    }
+    if !within(p) {
+        return refuse(Refusal::TooMany, 0);
+    }
+    Reading {
+        value: recorded(p, attribute),
+        place: 0,
+        note: noted(p),
+        refusal: Refusal::Accepted,
+    }
 }

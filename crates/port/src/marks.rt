@@ -3,10 +3,12 @@ use lexis::Found;
 ghost use Prim.Native.Nat.{_+_, _≤_};
 ghost use mathlib.Core.Path.{_≡_};
 ghost use mathlib.Core.List.{_++_};
+ghost use mathlib.Core.Option.{some};
 ghost use lib.ListN.{length, take};
-ghost use Rattle.lexis.specs.Text.{if_then_else_, occurs, cut, place, spot};
+ghost use Rattle.lexis.specs.Text.{cut, place, spot};
 ghost use Rattle.meaning.specs.Parts.{remove};
 ghost use Rattle.meaning.specs.Ordinary.{mark};
+ghost use Rattle.port.specs.Passes.{Rewritten};
 
 // The place of the first mark. A mark has a `#`, and its one `>` at its end: by these two it is sought.
 pub(crate) fn find_mark(text: &[u8]) -> Found
@@ -14,11 +16,11 @@ pub(crate) fn find_mark(text: &[u8]) -> Found
 {
     let mut from = 0;
     loop {
-        let h = lexis::seek(text, from, 35);
+        let h = lexis::seek(text, from, b'#');
         if text.len() <= h {
             return Found::Nowhere;
         }
-        let e = lexis::seek(text, h, 62);
+        let e = lexis::seek(text, h, b'>');
         if text.len() <= e {
             return Found::Nowhere;
         }
@@ -28,16 +30,6 @@ pub(crate) fn find_mark(text: &[u8]) -> Found
             }
         }
         from = e + 1;
-    }
-}
-
-// Whether the mark occurs in `text`.
-pub(crate) fn has_mark(text: &[u8]) -> bool
-    ensures { λ r. ⌜ r ≡ occurs mark (now (text .entry)) ⌝ }
-{
-    match find_mark(text) {
-        Found::At(_) => true,
-        Found::Nowhere => false,
     }
 }
 
@@ -54,13 +46,13 @@ pub(crate) fn copy(s: &[u8], room: &mut [u8], at: usize) -> usize
     at + i
 }
 
-// Copies `text` without its marks to the front of `room`, and returns how many bytes that is.
-pub(crate) fn remove(text: &[u8], room: &mut [u8]) -> usize
-    requires { ⌜ length (now text) ≤ length (now room) ⌝ }
+// Copies `text` without its marks, the first of which stands at `first`, to the front of `room`, and returns how many bytes that is.
+fn remove(text: &[u8], first: usize, room: &mut [u8]) -> usize
+    requires { ⌜ (length (now text) ≤ length (now room)) × (place (cut mark (now text)) ≡ some first) ⌝ }
     ensures { λ r. ⌜ (r ≤ length (now (room .exit))) × (take r (now (room .exit)) ≡ remove mark (now (text .entry))) ⌝ }
 {
-    let mut n = 0;
-    let mut t = text;
+    let mut n = copy(&text[..first], &mut *room, 0);
+    let mut t = &text[first + 27..];
     loop {
         match find_mark(t) {
             Found::At(i) => {
@@ -74,16 +66,21 @@ pub(crate) fn remove(text: &[u8], room: &mut [u8]) -> usize
     }
 }
 
-// What is read on: `text` itself if it has no mark, else a part of `room`. The caller has asked `has_mark`.
-pub(crate) fn to_read<'a>(text: &'a [u8], room: &'a mut [u8], marked: bool) -> &'a [u8]
-    requires { ⌜ (length (now text) ≤ length (now room)) × (marked ≡ occurs mark (now text)) ⌝ }
-    ensures { λ r. ⌜ now r ≡ (if occurs mark (now (text .entry)) then remove mark (now (text .entry)) else now (text .entry)) ⌝ }
+// How many bytes `text` has without its marks; where it has one, these bytes stand at the front of `room` then.
+pub(crate) fn without_marks(text: &[u8], room: &mut [u8]) -> usize
+    requires { ⌜ length (now text) ≤ length (now room) ⌝ }
+    ensures { λ r. ⌜ Rewritten (now (text .entry)) (now (room .exit)) r ⌝ }
 {
-    if marked {
-        let n = remove(text, &mut *room);
-        let t = &room[..];
-        &t[..n]
-    } else {
-        text
+    match find_mark(text) {
+        Found::At(i) => remove(text, i, room),
+        Found::Nowhere => text.len(),
     }
+}
+
+// What is read on: a part of `text`, all of it, where no mark was found, of `room` otherwise. `n` is what `without_marks` answered.
+pub(crate) fn to_read<'a>(text: &'a [u8], room: &'a [u8], n: usize) -> &'a [u8]
+    requires { ⌜ Rewritten (now text) (now room) n ⌝ }
+    ensures { λ r. ⌜ now r ≡ remove mark (now (text .entry)) ⌝ }
+{
+    if n < text.len() { &room[..n] } else { text }
 }

@@ -1,8 +1,8 @@
 // Tensor views (01, module 5).
-use super::made::Parsed;
-use super::made::nothing;
-use super::made::simple;
-use lexis::Found;
+use super::found::Parsed;
+use super::found::nothing;
+use super::found::simple;
+use super::keys::Places;
 use lists::List64;
 use meaning::Kind;
 use scalars::Named;
@@ -13,8 +13,9 @@ ghost use mathlib.Core.Option.{Option, none, some};
 ghost use lib.ListN.{length, take, drop};
 ghost use Rattle.meaning.specs.Parts.{each};
 ghost use Rattle.meaning.specs.Tile.{dimensions, stride-parts, tensor-parts, tensor, tensor-view};
-ghost use Rattle.lists.specs.Laid.{list64};
-ghost use Rattle.port.specs.Shown.{said, shown, Reads, Tensor-is};
+ghost use Rattle.lists.specs.Laid.{laid, list64};
+ghost use Rattle.port.specs.Keys.{Placed};
+ghost use Rattle.port.specs.Carried.{said, carried, Tensor-is};
 
 // A tensor view's parts, where there is one.
 pub struct Tensor {
@@ -25,29 +26,30 @@ pub struct Tensor {
 }
 
 // `[shape x]scalar, strides=[strides]`.
-pub(crate) fn parse_tensor(inner: &[u8]) -> Tensor
-    requires { ⌜ length (now inner) ≤ 1024 ⌝ }
+pub(crate) fn parse_tensor(inner: &[u8], k: Places) -> Tensor
+    requires { ⌜ Placed (now inner) k ⌝ }
     ensures { λ r. ⌜ Tensor-is r (tensor (now (inner .entry))) ⌝ }
 {
-    match lexis::find_by(inner, b", strides=", 9) {
-        Found::At(i) => around(inner, i, 10),
-        Found::Nowhere => match lexis::find_by(inner, b",strides=", 8) {
-            Found::At(i) => around(inner, i, 9),
-            Found::Nowhere => without_strides(inner),
-        },
+    let i = k.spaced;
+    if i < inner.len() {
+        return around(inner, i, 10);
     }
+    let j = k.bare;
+    if j < inner.len() {
+        return around(inner, j, 9);
+    }
+    without_strides(inner)
 }
 
 // The strides' clause opens with the `n` bytes at `i`.
 fn around(inner: &[u8], i: usize, n: usize) -> Tensor
-    requires { ⌜ (length (now inner) ≤ 1024) × (i + n ≤ length (now inner)) ⌝ }
+    requires { ⌜ i + n ≤ length (now inner) ⌝ }
     ensures { λ r. ⌜ Tensor-is r (tensor-parts (take i (now (inner .entry))) (some (drop (i + n) (now (inner .entry))))) ⌝ }
 {
     with_strides(&inner[..i], &inner[i + n..])
 }
 
 fn with_strides(s: &[u8], strides: &[u8]) -> Tensor
-    requires { ⌜ (length (now s) ≤ 1024) × (length (now strides) ≤ 1024) ⌝ }
     ensures { λ r. ⌜ Tensor-is r (tensor-parts (now (s .entry)) (some (now (strides .entry)))) ⌝ }
 {
     let f = lists::parse_front(s);
@@ -66,7 +68,6 @@ fn with_strides(s: &[u8], strides: &[u8]) -> Tensor
 
 // Without the clause, one DYNAMIC per dimension.
 fn without_strides(s: &[u8]) -> Tensor
-    requires { ⌜ length (now s) ≤ 1024 ⌝ }
     ensures { λ r. ⌜ Tensor-is r (tensor-parts (now (s .entry)) none) ⌝ }
 {
     let f = lists::parse_front(s);
@@ -77,7 +78,7 @@ fn without_strides(s: &[u8]) -> Tensor
             found: true,
             element,
             shape,
-            strides: lists::dynamic(shape.len),
+            strides: lists::dynamic(shape.row.len),
         },
         Named::Unknown => no_tensor(),
     }
@@ -85,12 +86,11 @@ fn without_strides(s: &[u8]) -> Tensor
 
 // All leading `[` and trailing `]` go; split at commas.
 fn parse_strides(s: &[u8]) -> List64
-    requires { ⌜ length (now s) ≤ 1024 ⌝ }
-    ensures { λ r. ⌜ Reads (list64 r) (dimensions (stride-parts (now (s .entry)))) ⌝ }
+    ensures { λ r. ⌜ list64 r ≡ laid 8 (dimensions (stride-parts (now (s .entry)))) ⌝ }
 {
     lists::parse_dims(
-        lexis::trim_end_matches(lexis::trim_start_matches(s, 91), 93),
-        44,
+        lexis::trim_end_matches(lexis::trim_start_matches(s, b'['), b']'),
+        b',',
     )
 }
 
@@ -106,11 +106,11 @@ pub(crate) fn no_tensor() -> Tensor
     }
 }
 
-pub(crate) fn parse_tensor_view(inner: &[u8]) -> Parsed
-    requires { ⌜ length (now inner) ≤ 1024 ⌝ }
-    ensures { λ r. ⌜ said r ≡ each (shown 8) (tensor-view (now (inner .entry))) ⌝ }
+pub(crate) fn parse_tensor_view(inner: &[u8], k: Places) -> Parsed
+    requires { ⌜ Placed (now inner) k ⌝ }
+    ensures { λ r. ⌜ said r ≡ each (carried 8) (tensor-view (now (inner .entry))) ⌝ }
 {
-    let t = parse_tensor(inner);
+    let t = parse_tensor(inner, k);
     if !t.found {
         return nothing();
     }

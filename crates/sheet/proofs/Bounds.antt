@@ -5,39 +5,15 @@ use mathlib.Core.Bool.{Bool, true, false, _&&_, false≢true}
 use mathlib.Core.Path.{_≡_, refl}
 use borrow.Author.Tests.{leb-true}
 use lib.ListN.{length}
-use Rattle.lexis.specs.Text.{Text, Cut, nowhere, at}
-use Rattle.meaning.specs.Found.{Clause, values, Found, fits, within, unreadable, counts, made, plain, token, with-attribute}
-use Rattle.meaning.specs.Tile as T
-use Rattle.meaning.specs.Views as W
+use Rattle.lexis.specs.Text.{Text}
+use Rattle.meaning.specs.Found.{Clause, values, Found, fits, within, unreadable, counts}
 use Rattle.meaning.specs.Ordinary.{refused, accepted, ordinary}
 use Rattle.meaning.specs.declared.Note.{Note}
 use Rattle.meaning.specs.declared.Refusal.{Refusal}
 use Rattle.meaning.specs.declared.Refusal.the-variants.{TooLong, HighByte, NoType, TooMany}
-use Rattle.meaning.proofs.Everywhere.{Made, read, ordinary-all}
-use Rattle.lists.proofs.Bounds.{fell-within, filled-within}
-
--- ── one sparse dimension ──
-
-abbrev pub Thin : Found → Type 0
-Thin t = length (values (t .sparse)) ≤ 1
-
-thin-sparse : (c : Cut) → length (values (W.sparse-by c)) ≤ 1
-thin-sparse nowhere = omega arith
-thin-sparse (at u t) = omega arith
-
-pub thin : Made Thin
-unfolding token plain made with-attribute T.tile-of T.tensor-found W.view-of W.strided-of
-thin = record {
-  token-is = omega arith;
-  scalar = λ e. omega arith;
-  pointer = λ e. omega arith;
-  tile = λ p c e. omega arith;
-  tensor = λ v. omega arith;
-  partition = λ m v. omega arith;
-  gather = λ c v. thin-sparse c;
-  strided = λ m l v. omega arith;
-  attribute = λ t h. h;
-}
+use Rattle.meaning.proofs.Everywhere.{read, ordinary-all}
+use Rattle.meaning.proofs.Thin.{Thin, thin}
+use Rattle.lists.proofs.Bounds.{fell-within, lacking-within}
 
 -- ── all four ──
 
@@ -62,7 +38,7 @@ module _ (cap : ℕ) where
 
   -- a clause that fits has no more unreadable entries
   fell : (c : Clause) → fits cap c ≡ true → unreadable c ≤ cap
-  fell c e = let h = leb-true (length (values c)) cap e in let k = fell-within cap c in omega arith
+  fell c e = let h = leb-true (length (values c)) cap e in let k = fell-within c in omega arith
 
   counts-few : (t : Found) → Thin t → within cap t ≡ true → Few most (counts t)
   unfolding within counts
@@ -76,12 +52,12 @@ module _ (cap : ℕ) where
       let tile = fell (t .tile) (second (f (t .shape) && f (t .strides)) (f (t .tile)) e₃) in
       let map = fell (t .map) (second (f (t .shape) && f (t .strides) && f (t .tile)) (f (t .map)) e₄) in
       let traversal = fell (t .traversal) (second (f (t .shape) && f (t .strides) && f (t .tile) && f (t .map)) (f (t .traversal)) e) in
-      let sparse = fell-within cap (t .sparse) in
+      let sparse = fell-within (t .sparse) in
       record {
         a = omega arith;
         b = omega arith;
         c = omega arith;
-        d = omega (arith, filled-within cap (t .strides), filled-within cap (t .map), filled-within cap (t .traversal), filled-within cap (t .sparse));
+        d = omega (arith, lacking-within (t .strides), lacking-within (t .map), lacking-within (t .traversal), lacking-within (t .sparse));
       }
 
   refused-few : (r : Refusal) (place : ℕ) → Few most (refused cap r place .note)

@@ -21,7 +21,7 @@ use Rattle.meaning.specs.declared.Record.{Record}
 use Rattle.meaning.specs.declared.Refusal.{Refusal}
 use Rattle.meaning.specs.declared.Refusal.the-variants.{TooLong, HighByte, NoType, TooMany}
 use Rattle.meaning.specs.Parts.{last, front, less-repeats, between, close}
-use Rattle.meaning.specs.Found.{Clause, values, value, padded, Found, flat, within, made, unused, plain, token, with-attribute}
+use Rattle.meaning.specs.Found.{Entry, Clause, values, padded, Found, flat, within, made, unused, plain, token, with-attribute}
 use Rattle.meaning.specs.Tile as M
 use Rattle.meaning.specs.Tile.{Tensor}
 use Rattle.meaning.specs.Views as W
@@ -34,6 +34,9 @@ use Rattle.writer.proofs.Same.{Whole}
 use Rattle.grammar.specs.Tests.{and-in, or-left, is-true}
 use Rattle.meaning.proofs.Whens.{When, when-each, all-each}
 use Rattle.meaning.proofs.Everywhere.{Read, ordinary-all}
+
+abbrev value : Entry → ℤ
+value e = e .value
 
 -- ── what a text needs ──
 

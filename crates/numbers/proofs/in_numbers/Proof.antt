@@ -5,7 +5,7 @@ use Rattle.numbers.proofs.in_numbers.Tie as tie
 
 returns : tie.Need-returns
 unfolding in-numbers
-returns c = rw (c .before .record-numbers .ensures, c .number .ensures)
+returns c = rw (c .before .before .record-numbers .ensures, c .before .note-numbers .ensures, c .number .ensures)
 
 pub in-numbers-spec : {M : Type 1} → statement M
-in-numbers-spec = tie.close (tie.spec (λ c κs. search needs) (λ c κs. search needs) returns)
+in-numbers-spec = tie.close (tie.spec (λ c κs. search needs) (λ c κs. search needs) (λ c κs. search needs) returns)

@@ -3,7 +3,7 @@ use borrow.Author.Needs.{needs}
 use mathlib.Core.Path.{sym, ap, _∙_}
 use lib.IntN.{ℤ}
 use Rattle.numerals.specs.Numeral as N
-use Rattle.meaning.specs.Found.{read}
+use Rattle.meaning.specs.Found.{as-read}
 use Rattle.lists.proofs.Entries as L
 use Rattle.lists.proofs.entry.dim_of.Statement.{statement}
 use Rattle.lists.proofs.entry.dim_of.Tie as tie
@@ -20,7 +20,7 @@ dim-of-spec =
     (λ c. let p = c .before .before .before in
     L.unknown (p .before .before .before .before .args .s .now) (p .trim .ensures) (c .before .same .ensures) (c .if1 .taken))
     (λ c. let p = c .before .before .before .before in
-    ap (λ (z : ℤ). read z) (search needs) ∙ L.known (p .args .s .now) (ap N.said64 (sym (c .before .v .given .1)) ∙ p .pre))
+    ap as-read (search needs) ∙ L.known (p .args .s .now) (ap N.said64 (sym (c .before .v .given .1)) ∙ p .pre))
     (λ c. let p = c .before .before .before in let q = p .before .before .before .before in
     L.number (q .args .s .now) (p .trim .ensures) (c .before .same .ensures) (c .if1 .left)
     (ap N.said64 (sym (p .before .enum-told .given .1)) ∙ q .pre ∙ ap (N.numeral 64) (sym (p .trim .ensures)))))

@@ -2,7 +2,7 @@
 use borrow.Author.Needs.{needs}
 use mathlib.Core.Path.{sym, ap, _∙_}
 use lib.IntN.{ℤ}
-use Rattle.meaning.specs.Found.{read, fell}
+use Rattle.meaning.specs.Found.{as-read, as-fallen}
 use Rattle.lists.specs.Push.{small-by}
 use Rattle.lists.proofs.entry.small_of.Statement.{statement}
 use Rattle.lists.proofs.entry.small_of.Tie as tie
@@ -13,5 +13,5 @@ small-of-spec =
     (tie.spec
     (λ c. search needs)
     (λ c. search needs)
-    (λ c. let a = c .before .before .before .args in ap (λ (z : ℤ). read z) (search needs) ∙ ap (small-by (a .default)) (sym (c .before .v .given .1)))
-    (λ c. let a = c .before .before .args in ap (λ (z : ℤ). fell z) (search needs) ∙ ap (small-by (a .default)) (sym (c .enum-told .given .1))))
+    (λ c. let a = c .before .before .before .args in ap as-read (search needs) ∙ ap (small-by (a .default)) (sym (c .before .v .given .1)))
+    (λ c. let a = c .before .before .args in ap as-fallen (search needs) ∙ ap (small-by (a .default)) (sym (c .enum-told .given .1))))

@@ -35,4 +35,4 @@ count-up-spec =
     (c .if1 .came))
     (λ c κs. search needs)
     (λ c. let n = c .before .before .before .args .n in
-    F.whole 8 (count-up 0 n) (c .before .before .loop .inv) (search needs) (sym (F.length-up 0 n)) (c .some .ensures)))
+    F.whole 8 (count-up 0 n) (c .before .before .loop .inv) (search needs) (sym (F.length-up 0 n)) (c .filled-in .ensures)))

@@ -34,4 +34,4 @@ dynamic-spec =
     (c .if1 .came))
     (λ c κs. search needs)
     (λ c. let n = c .before .before .before .args .n in
-    F.whole 8 (replicate n DYNAMIC) (c .before .before .loop .inv) (search needs) (sym (length-replicate n DYNAMIC)) (c .some .ensures)))
+    F.whole 8 (replicate n DYNAMIC) (c .before .before .loop .inv) (search needs) (sym (length-replicate n DYNAMIC)) (c .filled-in .ensures)))

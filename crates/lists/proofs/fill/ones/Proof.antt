@@ -32,4 +32,4 @@ ones-spec =
     (c .if1 .came))
     (λ c κs. search needs)
     (λ c. let n = c .before .before .before .args .n in
-    F.whole 8 (replicate n (pos 1)) (c .before .before .loop .inv) (search needs) (sym (length-replicate n (pos 1))) (c .some .ensures)))
+    F.whole 8 (replicate n (pos 1)) (c .before .before .loop .inv) (search needs) (sym (length-replicate n (pos 1))) (c .filled-in .ensures)))

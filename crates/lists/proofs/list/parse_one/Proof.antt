@@ -17,6 +17,6 @@ parse-one-spec =
     (tie.spec
     (λ c κs. search needs)
     (λ c κs. search needs)
-    (λ c κs. omega (arith, ap (λ (l : Laid). l .len) (c .before .none32 .ensures), ap (λ (l : Laid). l .fell) (c .before .none32 .ensures)))
+    (λ c κs. omega (arith, ap (λ (l : Laid). l .row .len) (c .before .none32 .ensures), ap (λ (l : Laid). l .row .tally .fell) (c .before .none32 .ensures)))
     (λ c. c .push32 .ensures ∙ (λ i. push (c .before .before .none32 .ensures i) (c .before .parse-small .ensures i))
     ∙ laid-more 8 [] (small (pos 0) (c .before .before .before .before .args .s .now))))

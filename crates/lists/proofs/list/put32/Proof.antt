@@ -19,9 +19,9 @@ returns c =
     let a = c .before .before .before .args in
     let h : length (a .l .values) ≡ 8 = search needs in
     let z : toZ w32 (ofZ w32 (a .v)) ≡ a .v = search needs in
-    ap {B = Laid} (λ (v : List ℤ). record { values = v; len = a .l .len + 1; fell = a .l .fell + a .fell; filled = a .l .filled })
-    (⊎-elim (λ w. w .1 ∙ ap (set (a .l .values) (a .l .len)) z) (λ w. w .1 ∙ sym (set-out (a .l .values) (a .l .len) (a .v) (omega arith)))
-    (c .before .if1 .came))
+    ap {B = Laid} (λ (v : List ℤ). record { values = v; row = record { len = a .l .row .len + 1; stood = a .l .row .stood; tally = a .tally } })
+    (⊎-elim (λ w. w .1 ∙ ap (set (a .l .values) (a .l .row .len)) z) (λ w. w .1 ∙ sym (set-out (a .l .values) (a .l .row .len) (a .v) (omega arith)))
+    (c .if1 .came))
 
 pub put32-spec : {M : Type 1} → statement M
-put32-spec = tie.close (tie.spec (λ c. search needs) (λ c. search needs) (λ c. search needs) (λ c. search needs) returns)
+put32-spec = tie.close (tie.spec (λ c. search needs) (λ c. search needs) (λ c. search needs) returns)

@@ -15,6 +15,5 @@ around-spec =
     (λ c. search needs)
     (λ c. search needs)
     (λ c. search needs)
-    (λ c κs. let a = c .before .before .before in
-    (L.front-short (a .args .inner .now) (a .args .i) (a .pre .0), L.back-short (a .args .inner .now) _ (a .pre .0)))
+    (λ c κs. search needs)
     (λ c. L.strides-rest _ (c .before .before .before .before .args .inner .now) _ (c .with-strides .ensures)))

@@ -12,4 +12,4 @@ parse-strides-spec =
     (λ c κs. search needs)
     (λ c κs. search needs)
     (λ c. let t = c .before in let a = t .before .before .before in
-    L.strides-read (a .args .s .now) _ _ (t .before .trim-start-matches .ensures) (t .trim-end-matches .ensures) (c .parse-dims .ensures) (a .pre)))
+    L.strides-read (a .args .s .now) _ _ (t .before .trim-start-matches .ensures) (t .trim-end-matches .ensures) (c .parse-dims .ensures)))

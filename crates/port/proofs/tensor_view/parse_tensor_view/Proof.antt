@@ -14,6 +14,6 @@ parse-tensor-view-spec =
     (λ c κs. search needs)
     (λ c. let p = c .before .before .before in
     c .nothing .ensures ∙ L.view-none (p .before .before .args .inner .now) _ (p .parse-tensor .ensures) (not-true _ (c .before .if1 .taken)))
-    (λ c κs. let t = c .before .before .before .before .parse-tensor .ensures in (t .shape, t .strides))
+    (λ c κs. search needs)
     (λ c. let i = c .before .before .before in let p = i .before .before in
     c .simple .ensures ∙ L.view-some (p .before .before .args .inner .now) _ (p .parse-tensor .ensures) (not-false _ (i .if1 .left))))

@@ -18,4 +18,4 @@ pointer-shape-spec =
     (λ c κs. search needs)
     (λ c. let i = c .before .before in let r = i .before in let t = r .before .before in let a = t .before .before in
     L.shape-some (a .args .before .now) _ _ (t .trim .ensures) (r .trim-end-repeats .ensures)
-    (i .if1 .left) (c .before .trim-end-matches .ensures) (c .parse-dims .ensures) (a .pre)))
+    (i .if1 .left) (c .before .trim-end-matches .ensures) (c .parse-dims .ensures)))

@@ -5,7 +5,6 @@ use native.Mathlib.Omega.{arith}
 use borrow.Author.Needs.{needs}
 use lib.Seq.{length-take-le}
 use Rattle.lexis.specs.Text.{bytes}
-use Rattle.port.proofs.Building as B
 use Rattle.port.proofs.Cutting as C
 use Rattle.port.proofs.Tiling as L
 use Rattle.port.proofs.tile.pointer_tile.Statement.{statement}
@@ -24,7 +23,7 @@ pointer-tile-spec =
     (λ c. search needs)
     (λ c κs. search needs)
     (λ c κs. search needs)
-    (λ c κs. (c .before .pointer-shape .ensures .few, B.few-unused (c .none64 .ensures)))
+    (λ c κs. search needs)
     (λ c. search needs)
     (λ c κs. search needs)
     (λ c. search needs)

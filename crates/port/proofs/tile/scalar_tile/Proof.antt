@@ -2,7 +2,6 @@
 use mathlib.Core.Bool.{false}
 use borrow.Author.Needs.{needs}
 use Rattle.meaning.specs.Tile.{dimensions}
-use Rattle.port.proofs.Building as B
 use Rattle.port.proofs.Cutting as C
 use Rattle.port.proofs.Tiling as L
 use Rattle.port.proofs.tile.scalar_tile.Statement.{statement}
@@ -19,13 +18,12 @@ scalar-tile-spec =
     (λ c κs. search needs)
     (λ c. search needs)
     (λ c κs. search needs)
-    (λ c κs. let f = c .before .before .before .before .before .before .before in let a = f .before .before in
-    (C.sizes-read (a .args .inner .now) (f .parse-front .ensures) (a .pre) .few, B.few-unused (c .none64 .ensures)))
+    (λ c κs. search needs)
     (λ c. search needs)
     (λ c κs. search needs)
     (λ c. let e = c .before .before .before in let p = e .before .before in let f = p .before .before .before in let a = f .before .before in
     let s = a .args .inner .now in
     L.tile-some false (dimensions (C.sizes s)) (c .simple .ensures) (C.named s (f .parse-front .ensures) (p .parse-scalar .ensures) (e .e .given .1))
-    (C.sizes-read s (f .parse-front .ensures) (a .pre)) (c .before .none64 .ensures))
+    (f .parse-front .ensures .dims) (c .before .none64 .ensures))
     (λ c. let p = c .before .before .before in let f = p .before .before .before in let s = f .before .before .args .inner .now in
     L.tile-none false (dimensions (C.sizes s)) (c .nothing .ensures) (C.named s (f .parse-front .ensures) (p .parse-scalar .ensures) (c .before .enum-told .given .1))))

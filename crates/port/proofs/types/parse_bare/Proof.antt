@@ -16,6 +16,6 @@ parse-bare-spec =
     (λ c. search needs)
     (λ c κs. search needs)
     (λ c. let p = c .before .before .before .before in
-    L.bare-named (p .before .before .args .s .now) (sym (p .parse-scalar .ensures) ∙ ap said (c .before .before .e .given .1)) (c .plain .ensures))
+    L.bare-named (p .before .before .args .s .now) (sym (p .parse-scalar .ensures) ∙ ap said (c .before .before .e .given .1)) (c .listless .ensures))
     (λ c. let p = c .before .before .before in
     L.bare-named (p .before .before .args .s .now) (sym (p .parse-scalar .ensures) ∙ ap said (c .before .enum-told .given .1)) (c .nothing .ensures)))

@@ -15,9 +15,9 @@ parse-last-spec =
     (λ c. search needs)
     (λ c κs. search needs)
     (λ c. search needs)
-    (λ c κs. L.applied (c .before .before .try-form .ensures) (c .before .if1 .taken))
+    (λ c κs. L.applied (c .before .before .applies .ensures) (c .before .if1 .taken))
     (λ c κs. search needs)
     (λ c. L.decides (L.untried (drop 5 shorthand) _ (c .before .before .before .before .before .before .before .before .args .t .now)) _ (c .before .strip-prefix-suffix .ensures) (c .parse-ptr .ensures))
     (λ c κs. search needs)
     (λ c. let e1 = c .before in
-    L.at-last (L.past (L.untried (drop 5 shorthand) _ _) (e1 .before .try-form .ensures) (e1 .if1 .left)) (c .parse-bare .ensures)))
+    L.at-last (L.past (L.untried (drop 5 shorthand) _ _) (e1 .before .applies .ensures) (e1 .if1 .left)) (c .parse-bare .ensures)))

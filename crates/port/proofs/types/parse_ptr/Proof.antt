@@ -16,6 +16,6 @@ parse-ptr-spec =
     (λ c. search needs)
     (λ c κs. search needs)
     (λ c. let p = c .before .before .before .before in
-    L.pointer-named (p .before .before .args .inner .now) (sym (p .parse-scalar .ensures) ∙ ap said (c .before .before .e .given .1)) (c .plain .ensures))
+    L.pointer-named (p .before .before .args .inner .now) (sym (p .parse-scalar .ensures) ∙ ap said (c .before .before .e .given .1)) (c .listless .ensures))
     (λ c. let p = c .before .before .before in
     L.pointer-named (p .before .before .args .inner .now) (sym (p .parse-scalar .ensures) ∙ ap said (c .before .enum-told .given .1)) (c .nothing .ensures)))

@@ -2,7 +2,6 @@
 use mathlib.Core.Path.{_∙_}
 use borrow.Author.Needs.{needs}
 use borrow.Author.Tests.{not-true, not-false}
-use Rattle.port.proofs.Building.{few-unused}
 use Rattle.port.proofs.Sights as S
 use Rattle.port.proofs.views.parse_gather_scatter_view.Statement.{statement}
 use Rattle.port.proofs.views.parse_gather_scatter_view.Tie as tie
@@ -13,13 +12,11 @@ parse-gather-scatter-view-spec =
     (tie.spec
     (λ c κs. search needs)
     (λ c κs. search needs)
-    (λ c. let p = c .before .before .before in
-    c .nothing .ensures ∙ S.no-gather (p .before .before .args .inner .now) (p .parse-view .ensures) (not-true _ (c .before .if1 .taken)))
+    (λ c. let p = c .before .before .before in c .nothing .ensures ∙ S.no-gather (p .before .before .args .inner .now) (p .parse-view .ensures) (not-true _ (c .before .if1 .taken)))
     (λ c κs. search needs)
     (λ c κs. search needs)
+    (λ c κs. c .before .before .before .before .before .before .pre .sparse)
     (λ c κs. search needs)
-    (λ c κs. let g = c .before .before .before .before .before .parse-view .ensures in
-    (g .tile, g .shape, g .strides, few-unused (c .before .before .none32 .ensures), few-unused (c .before .none322 .ensures), c .parse-sparse .ensures .few))
     (λ c. let i = c .before .before .before .before in let p = i .before .before in
     S.gather-is (p .before .before .args .inner .now) (p .parse-view .ensures) (not-false _ (i .if1 .left))
-    (c .view-of .ensures) (c .before .before .before .none32 .ensures) (c .before .before .none322 .ensures) (c .before .parse-sparse .ensures .is)))
+    (c .view-of .ensures) (c .before .before .before .none32 .ensures) (c .before .before .none322 .ensures) (c .before .parse-sparse .ensures)))

@@ -3,7 +3,6 @@ use Prim.Native.Nat.{_-_}
 use mathlib.Core.Path.{_∙_}
 use native.Mathlib.Omega.{arith}
 use borrow.Author.Needs.{needs}
-use lib.IntN.{pos}
 use lib.ListN.{take, drop}
 use Rattle.lists.specs.Laid.{list32}
 use Rattle.port.proofs.Clauses as L
@@ -22,11 +21,7 @@ parse-i32-list-after-spec =
     (λ c κs. search needs)
     (λ c. search needs)
     (λ c. search needs)
-    (λ c. let n = c .before .before .before .a .given in let p = c .before .before .before .before .before in let q = p .before .before .before in let s = q .args .inner .now in (
-      L.entries-are (take (n .0 .1 .0 - n .0 .0) (drop (n .0 .0) s)) (c .parse-smalls .ensures) ∙ L.laid-as (p .list-after .ensures) (n .1) (list32 (q .args .own)),
-      L.few-part 44 s (n .0 .0) (n .0 .1 .0) (pos 0) (q .pre .0) (c .parse-smalls .ensures),
-    ))
-    (λ c. let q = c .before .before .before .before .before in
-    (L.laid-as (c .before .before .list-after .ensures) (c .enum-told .given .1) (list32 (q .args .own)), q .pre .1))
-    (λ c. let q = c .before .before .before .before .before in
-    (L.laid-as (c .before .before .list-after .ensures) (c .enum-told2 .given .1) (list32 (q .args .own)), q .pre .1)))
+    (λ c. let n = c .before .before .before .a .given in let p = c .before .before .before .before .before in let q = p .before .before .before in let s = q .args .inner .now in
+    L.entries-are (take (n .0 .1 .0 - n .0 .0) (drop (n .0 .0) s)) (c .parse-smalls .ensures) ∙ L.laid-as (p .list-after .ensures) (n .1) (list32 (q .args .own)))
+    (λ c. L.laid-as (c .before .before .list-after .ensures) (c .enum-told .given .1) (list32 (c .before .before .before .before .before .args .own)))
+    (λ c. L.laid-as (c .before .before .list-after .ensures) (c .enum-told2 .given .1) (list32 (c .before .before .before .before .before .args .own))))

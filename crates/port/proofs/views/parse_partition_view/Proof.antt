@@ -1,11 +1,8 @@
--- `parse_partition_view` meets its contract: what is built of the view and its map, which is read or counts up, is the view that was found.
+-- `parse_partition_view` meets its contract: by the three answers that the place of the map can be.
 use mathlib.Core.Path.{_∙_}
 use native.Mathlib.Omega.{arith}
 use borrow.Author.Needs.{needs}
 use borrow.Author.Tests.{not-true, not-false}
-use lib.IntN.{pos}
-use Rattle.meaning.specs.Views.{count-up}
-use Rattle.port.proofs.Building.{few-unused}
 use Rattle.port.proofs.Clauses as L
 use Rattle.port.proofs.Sights as S
 use Rattle.port.proofs.views.parse_partition_view.Statement.{statement}
@@ -17,10 +14,9 @@ parse-partition-view-spec =
     (tie.spec
     (λ c κs. search needs)
     (λ c κs. search needs)
-    (λ c. let p = c .before .before .before in
-    c .nothing .ensures ∙ S.no-partition (p .before .before .args .inner .now) (p .parse-view .ensures) (not-true _ (c .before .if1 .taken)))
+    (λ c. let p = c .before .before .before in c .nothing .ensures ∙ S.no-partition (p .before .before .args .inner .now) (p .parse-view .ensures) (not-true _ (c .before .if1 .taken)))
     (λ c. search needs)
-    (λ c κs. search needs)
+    (λ c κs. c .before .before .before .before .before .before .pre .map)
     (λ c. search needs)
     (λ c. let g = L.told (c .before .before .before .list-after .ensures) (c .before .a .given .1) in omega arith)
     (λ c. let g = L.told (c .before .before .before .list-after .ensures) (c .before .a .given .1) in omega arith)
@@ -28,29 +24,14 @@ parse-partition-view-spec =
     (λ c κs. search needs)
     (λ c κs. search needs)
     (λ c κs. search needs)
-    (λ c κs. let m = c .before .before .before .before .before in let p = m .before .before .before .before .before .before .before in
-    let q = p .before .before in let g = p .parse-view .ensures in let n = m .a .given .0 in (
-      g .tile,
-      g .shape,
-      g .strides,
-      L.few-part 44 (q .args .inner .now) (n .0) (n .1 .0) (pos 0) (q .pre) (c .before .before .parse-smalls .ensures),
-      few-unused (c .before .none32 .ensures),
-      few-unused (c .none322 .ensures),
-    ))
+    (λ c κs. search needs)
     (λ c. search needs)
     (λ c κs. search needs)
     (λ c. search needs)
     (λ c κs. search needs)
     (λ c κs. search needs)
     (λ c κs. search needs)
-    (λ c κs. let p = c .before .before .before .before .before .before .before .before .before .before in let g = p .parse-view .ensures in (
-      g .tile,
-      g .shape,
-      g .strides,
-      L.few-filled (count-up 0 (p .parse-view .result .tile .len)) (c .before .before .count-up .ensures),
-      few-unused (c .before .none323 .ensures),
-      few-unused (c .none324 .ensures),
-    ))
+    (λ c κs. search needs)
     (λ c. let m = c .before .before .before .before .before .before in let i = m .before .before .before .before .before in let p = i .before .before in let n = m .a .given in
     S.partition-listed (p .before .before .args .inner .now) (p .parse-view .ensures) (not-false _ (i .if1 .left))
     (c .view-of .ensures) (c .before .before .none32 .ensures) (c .before .none322 .ensures)

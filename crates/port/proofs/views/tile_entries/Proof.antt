@@ -14,6 +14,6 @@ tile-entries-spec =
     (λ c κs. search needs)
     (λ c κs. search needs)
     (λ c. let p = c .before .before in let a = p .before .before .before in
-    L.tile-crossed (a .args .s .now) (a .pre) (sym (p .contains .ensures) ∙ c .before .if1 .taken) (c .parse-smalls .ensures))
+    L.tile-crossed (a .args .s .now) (sym (p .contains .ensures) ∙ c .before .if1 .taken) (c .parse-smalls .ensures))
     (λ c. let p = c .before .before in let a = p .before .before .before in
-    L.tile-listed (a .args .s .now) (a .pre) (sym (p .contains .ensures) ∙ c .before .if1 .left) (c .parse-smalls2 .ensures)))
+    L.tile-listed (a .args .s .now) (sym (p .contains .ensures) ∙ c .before .if1 .left) (c .parse-smalls2 .ensures)))
