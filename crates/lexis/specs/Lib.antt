@@ -1,3 +1,2 @@
--- What lexis's contracts say: texts; and, of private helpers, parts.
+-- What lexis's contracts say: texts.
 pub mod Text
-pub mod Parts

@@ -85,6 +85,11 @@ either a b c = eqb c a || eqb c b
 abbrev pub outside : ℕ → ℕ → ℕ → Bool
 outside lo hi b = ltb b lo || ltb hi b
 
+-- some byte passes the test
+abbrev pub some-of : (ℕ → Bool) → Text → Bool
+some-of p [] = false
+some-of p (b ∷ s) = p b || some-of p s
+
 -- what stands before the first byte that passes the test, or all of s
 abbrev pub until : (ℕ → Bool) → Text → Text
 until p [] = []

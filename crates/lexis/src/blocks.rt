@@ -3,8 +3,7 @@ ghost use mathlib.Core.Path.{_≡_};
 ghost use Prim.Native.Nat.{_+_, _≤_};
 ghost use lib.Dec.{eqb};
 ghost use lib.ListN.{drop, length, take};
-ghost use Rattle.lexis.specs.Text.{either, outside, until};
-ghost use Rattle.lexis.specs.Parts.{some-of};
+ghost use Rattle.lexis.specs.Text.{either, outside, some-of, until};
 
 // Whether one of the sixteen bytes from `at` on is `b`.
 fn among(text: &[u8], at: usize, b: u8) -> bool

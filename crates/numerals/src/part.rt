@@ -16,8 +16,7 @@ ghost use mathlib.Core.Bool.{true};
 ghost use Prim.Native.Nat.{_+_, _≤_};
 ghost use lib.Dec.{eqb};
 ghost use lib.ListN.{drop, length, take};
-ghost use Rattle.lexis.specs.Text.{until, trim};
-ghost use Rattle.lexis.specs.Parts.{some-of};
+ghost use Rattle.lexis.specs.Text.{some-of, until, trim};
 ghost use Rattle.numerals.specs.Numeral.{numeral, said64, said32};
 ghost use Rattle.numerals.specs.Parts.{ink, apart, odd, Ran};
 

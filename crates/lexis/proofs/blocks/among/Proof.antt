@@ -1,6 +1,6 @@
 -- `among` meets its contract: j bytes of the block have been looked at.
 use Rattle.lexis.proofs.Passing as L
-use Rattle.lexis.specs.Parts.{some-of}
+use Rattle.lexis.specs.Text.{some-of}
 use lib.Dec.{eqb}
 use lib.ListN.{take, drop, getD}
 use Prim.Native.Nat.{ℕ, _+_, _-_, _≤_}

@@ -1,6 +1,6 @@
 -- `among_ink` meets its contract: j bytes of the block have been looked at.
 use Rattle.lexis.proofs.Passing as L
-use Rattle.lexis.specs.Parts.{some-of}
+use Rattle.lexis.specs.Text.{some-of}
 use Rattle.numerals.specs.Parts.{ink}
 use lib.ListN.{take, drop}
 use Prim.Native.Nat.{ℕ, _-_, _≤_}
