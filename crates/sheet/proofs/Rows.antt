@@ -16,7 +16,7 @@ use Rattle.sheet.specs.declared.Cut.{Cut}
 use Rattle.sheet.specs.declared.Counted.the-variants.{TooLong}
 use Rattle.sheet.specs.Parts.{none as nothing}
 use Rattle.sheet.specs.Sheet.{rows, yielded, no-row, cut, bytes-of, sum, counted, totals}
-use Rattle.sheet.proofs.Bounds.{Thin, thin}
+use Rattle.meaning.proofs.Thin.{Thin, thin}
 use Rattle.sheet.proofs.Cutting.{left, found, ended, stays}
 
 -- ── a walk ──
