@@ -1,15 +1,16 @@
--- On the text of every well-formed strict form the ordinary reading finds its meaning, and every count is zero: the form is a
--- skeleton, and `Exact` reads its numerals back.
+-- On the text of every well-formed strict form the ordinary reading finds its meaning, and every count is zero: the content of each
+-- form is read by `Inner` and `Outer`, the brackets and the mark by `Outside`.
 use Prim.Native.Nat.{ℕ, _+_}
 use native.Mathlib.Omega.{arith}
-use mathlib.Core.Bool.{Bool, true, false, _&&_, not}
-use mathlib.Core.List.{List, [], _∷_, map}
-use mathlib.Core.Option.{Option, some}
-use mathlib.Core.Path.{_≡_, refl, ap, _∙_}
-use lib.Dec.{T}
+use mathlib.Core.Bool.{Bool, true, false, _&&_}
+use mathlib.Core.List.{List, [], _∷_, map, append-assoc, append-nil}
+use mathlib.Core.Option.{some}
+use mathlib.Core.Path.{_≡_, refl, ap, sym, _∙_}
+use lib.Dec.{T, ltb→lt}
 use lib.ListN.{getD}
 use lib.IntN.{ℤ, pos}
-use Rattle.lexis.specs.Text.{bytes, white, less-trailing}
+use Rattle.lexis.specs.Text.{bytes}
+use Rattle.scalars.specs.Names.{scalar-name}
 use Rattle.scalars.specs.declared.scalar.Scalar.{Scalar}
 use Rattle.scalars.specs.declared.scalar.Scalar.the-variants.{I1}
 use Rattle.meaning.specs.declared.Kind.{Kind}
@@ -17,25 +18,30 @@ use Rattle.meaning.specs.declared.Kind.the-variants as K
 use Rattle.meaning.specs.declared.Padding.{Padding}
 use Rattle.meaning.specs.declared.Padding.the-variants.{Absent}
 use Rattle.meaning.specs.declared.Note.{Note}
-use Rattle.meaning.specs.Decimal.{decimal, size, in32}
+use Rattle.meaning.specs.Decimal.{size, in32}
 use Rattle.meaning.specs.Strict as Form
-use Rattle.meaning.specs.Strict.{_⊕_, cuda, values, scalarOf, entriesOf, Form, spell}
-use Rattle.meaning.specs.Meant.{Any, any, eachOf, viewOk, ok, mean, stridesOf, padsOf}
+use Rattle.meaning.specs.Strict.{_⊕_, may, cuda, dims, Name, word, words, scalars, values, scalarOf, entriesOf, Form, spell}
+use Rattle.meaning.specs.Meant.{Any, any, eachOf, tensorOk, viewOk, ok, mean, stridesOf, padsOf}
 use Rattle.meaning.specs.Parts.{each}
-use Rattle.meaning.specs.Found.{Entry, Clause, stands, unused, Found, unreadable, lacking, fallen, counts, unnoted, made, plain, token, with-attribute}
+use Rattle.meaning.specs.Found.{Entry, Clause, stands, Found, unreadable, lacking, fallen, counts, unnoted, made, plain, token, with-attribute}
 use Rattle.meaning.specs.Found as F
-use Rattle.meaning.specs.Tile.{tile-of, tensor-found}
+use Rattle.meaning.specs.Tile as Tile
+use Rattle.meaning.specs.Tile.{tile-of}
 use Rattle.meaning.specs.Views as W
+use Rattle.meaning.specs.Ordinary as O
 use Rattle.meaning.specs.Ordinary.{parse}
 use Rattle.grammar.specs.Tests.{and-left, and-right}
-use Rattle.grammar.specs.Whole.{glue}
-use Rattle.accord.proofs.Forms as S
-use Rattle.accord.proofs.Num.{vacant, every-mono, visible, visible-nonwhite, non, back-none}
-use Rattle.accord.proofs.Names.{name-word, word-class}
-use Rattle.accord.proofs.Lists.{exact, small-decimal}
-use Rattle.accord.proofs.Hole.{kept-some, attach, itself, respelt}
-use Rattle.accord.proofs.Skeleton.{found, skeleton-reads}
-use Rattle.accord.proofs.Exact.{list-of, decimal-of, loosened, spelt, tile-plain, tile-pointer, strides-found, tensor-read, tensor-exact, view-read, view-exact, given-read}
+use Rattle.accord.proofs.Shape.{Shape, lit, alt, the, left, right}
+use Rattle.accord.proofs.Names.{table, name-word}
+use Rattle.accord.proofs.Lists.{exact}
+use Rattle.accord.proofs.Forms.{_▸_, _&_, say, dims-in, strs-in, entries-in, name-in, may-in, comma-in, comma-shape, strides-shape, body, body-shape}
+use Rattle.accord.proofs.Forms.{pad-in, pad-shape, intro-in, intro-shape, middle, end, no-travel, travel-of, map-of, sparse-of, Sight, tile-shape, inside}
+use Rattle.accord.proofs.Inner.{tile-plain, tile-pointer, strides-found, tensor-found, tensor-read}
+use Rattle.accord.proofs.Outer.{view-found, with, partition-read, gather-read, strided-read}
+use Rattle.accord.proofs.Hole as H
+use Rattle.accord.proofs.Hole.{Hole, here, _◂_, theMark, attach}
+use Rattle.accord.proofs.Outside as B
+use Rattle.accord.proofs.Outside.{opening, reading, fits, bracketed}
 
 -- ── what a reading finds: the type, and the counts ──
 
@@ -53,6 +59,9 @@ shown t = record {
 -- a type with nothing defaulted
 abbrev pub sure : Any → Shown
 sure a = record { type = a; note = unnoted }
+
+abbrev attributed : Any → Any
+attributed a = any (a .kind) (a .element) (a .pointer) true (a .shape) (a .strides) (a .tile) (a .map) (a .traversal) (a .sparse) (a .padding)
 
 -- a clause that holds l, and adds to no count
 record Clean (c : Clause) (l : List ℤ) : Type 0 where
@@ -75,21 +84,11 @@ clean-strides : (st : Form.Strides) → Clean (strides-found st) (stridesOf st)
 clean-strides Form.Strides.absent = record { holds = refl; readable = refl; whole = refl }
 clean-strides (Form.Strides.given s c) = clean (map size (values c))
 
--- a mark changes the attribute and nothing else
 module _ (k : Kind) (e : Scalar) (p : Bool) {cs cr ct cm cu cz : Clause} {s r t m u z : List ℤ} (o : Padding)
     (hs : Clean cs s) (hr : Clean cr r) (ht : Clean ct t) (hm : Clean cm m) (hu : Clean cu u) (hz : Clean cz z) where
-  clean-made : (b : Bool) → shown (attach b (made k e p cs cr ct cm cu cz o)) ≡ sure (any k e p b s r t m u (getD z 0 (pos 0)) o)
-  unfolding shown made counts with-attribute
-  clean-made true = λ i. record {
-    type = any k e p true (hs .holds i) (hr .holds i) (ht .holds i) (hm .holds i) (hu .holds i) (getD (hz .holds i) 0 (pos 0)) o;
-    note = record {
-      a = hs .readable i + hr .readable i;
-      b = ht .readable i;
-      c = hm .readable i + hu .readable i + hz .readable i;
-      d = hr .whole i + hm .whole i + hu .whole i + hz .whole i;
-    };
-  }
-  clean-made false = λ i. record {
+  clean-plain : shown (made k e p cs cr ct cm cu cz o) ≡ sure (any k e p false s r t m u (getD z 0 (pos 0)) o)
+  unfolding shown made counts
+  clean-plain = λ i. record {
     type = any k e p false (hs .holds i) (hr .holds i) (ht .holds i) (hm .holds i) (hu .holds i) (getD (hz .holds i) 0 (pos 0)) o;
     note = record {
       a = hs .readable i + hr .readable i;
@@ -99,7 +98,13 @@ module _ (k : Kind) (e : Scalar) (p : Bool) {cs cr ct cm cu cz : Clause} {s r t 
     };
   }
 
--- ── what is found of a strict form ──
+  -- a mark changes the attribute and nothing else
+  clean-made : (b : Bool) → shown (attach b (made k e p cs cr ct cm cu cz o)) ≡ sure (any k e p b s r t m u (getD z 0 (pos 0)) o)
+  unfolding shown made counts with-attribute
+  clean-made true = ap (λ (x : Shown). record { type = attributed (x .type); note = x .note }) clean-plain
+  clean-made false = clean-plain
+
+-- ── what is shown of it ──
 plain-shown : (k : Kind) (e : Scalar) (m : Bool) → shown (attach m (plain k e)) ≡ sure (any k e false m [] [] [] [] [] (pos 0) Absent)
 unfolding plain
 plain-shown k e m = clean-made k e false Absent (clean []) (clean []) (clean []) (clean []) (clean []) (clean []) m
@@ -108,13 +113,13 @@ tile-shown : (p : Bool) (l : List ℤ) (e : Scalar) (m : Bool) → shown (attach
 unfolding tile-of
 tile-shown p l e m = clean-made K.Tile e p Absent (clean l) (clean []) (clean []) (clean []) (clean []) (clean []) m
 
-tensor-shown : (t : Form.Tensor) → shown (attach (t .marked) (tensor-found (tensor-read t)))
+tensor-shown : (t : Form.Tensor) → shown (attach (t .marked) (Tile.tensor-found (tensor-found t)))
     ≡ sure (any K.TensorView (scalarOf (t .name)) false (t .marked) (map size (t .shape)) (stridesOf (t .strides)) [] [] [] (pos 0) Absent)
-unfolding tensor-found
+unfolding Tile.tensor-found
 tensor-shown t = clean-made K.TensorView (scalarOf (t .name)) false Absent (clean (map size (t .shape))) (clean-strides (t .strides)) (clean []) (clean []) (clean []) (clean []) (t .marked)
 
 view-shown : (k : Kind) (v : Form.View) (a u z : List ℤ) → let t = v .tensor in
-    shown (attach (t .marked) (W.view-of k (stands (exact a)) (stands (exact u)) (stands (exact z)) (view-read v)))
+    shown (attach (t .marked) (W.view-of k (stands (exact a)) (stands (exact u)) (stands (exact z)) (view-found v)))
     ≡ sure (any k (scalarOf (t .name)) false (t .marked) (map size (t .shape)) (stridesOf (t .strides)) (entriesOf (v .tile)) a u (getD z 0 (pos 0)) (padsOf (v .padding)))
 unfolding W.view-of
 view-shown k v a u z = clean-made k (scalarOf (v .tensor .name)) false (padsOf (v .padding)) (clean (map size (v .tensor .shape))) (clean-strides (v .tensor .strides))
@@ -124,57 +129,73 @@ token-shown : shown token ≡ sure (any K.Token I1 false false [] [] [] [] [] (p
 unfolding token
 token-shown = plain-shown K.Token I1 false
 
--- what is found, and what is shown of it
-says : (m : Bool) {o : Option Found} {t : Found} {a : Any} → o ≡ some t → shown (attach m t) ≡ sure a → each shown (each (attach m) o) ≡ some (sure a)
-says m e f = ap (λ (o : Option Found). each shown (each (attach m) o)) e ∙ ap some f
+-- ── the mark in its place ──
+-- at the content's end
+abbrev at-end : Hole (lit []) (lit []) (λ r. r)
+at-end = record { front = []; tail = []; is-front = the; is-tail = the; split = λ r. append-nil r }
 
-found-exact : (f : Form) → T (ok f) → each shown (found (loosened f)) ≡ some (sure (mean f))
-unfolding W.strided-of
-found-exact (Form.scalar n) h = ap some (plain-shown K.Scalar (scalarOf n) false)
-found-exact (Form.token b) h = ap some token-shown
-found-exact (Form.ptr p) h = says (p .marked) (ap (each (plain K.Pointer)) (name-word (p .name))) (plain-shown K.Pointer (scalarOf (p .name)) (p .marked))
-found-exact (Form.tile b ds (Form.plain n)) h = ap (each shown) (tile-plain ds n h) ∙ ap some (tile-shown false (map size ds) (scalarOf n) false)
-found-exact (Form.tile b ds (Form.pointer p)) h = says (p .marked) (tile-pointer ds (p .front) (p .name) h) (tile-shown true (map size ds) (scalarOf (p .name)) (p .marked))
-found-exact (Form.tensor b t) h = says (t .marked) (ap (each tensor-found) (tensor-exact t h)) (tensor-shown t)
-found-exact (Form.partition v c) h =
-    says (v .tensor .marked)
-    (ap (W.partition-from (W.listed (list-of c .text))) (view-exact v S.Travel.absent (S.Ending.map (v .space′) (list-of c)) (and-left (viewOk v) (eachOf in32 (values c)) h))
-    ∙ ap (λ (m : Clause). some (W.view-of K.Partition m unused unused (view-read v))) (given-read c (and-right (viewOk v) (eachOf in32 (values c)) h)))
-    (view-shown K.Partition v (values c) [] [])
-found-exact (Form.gather v z) h =
-    says (v .tensor .marked)
-    (λ i. each (W.view-of K.GatherScatter unused unused (stands (small-decimal (pos 0) z (and-right (viewOk v) (in32 z) h) i ∷ [])))
-    (view-exact v S.Travel.absent (S.Ending.sparse (v .space′) (decimal-of z)) (and-left (viewOk v) (in32 z) h) i))
-    (view-shown K.GatherScatter v [] [] (z ∷ []))
-found-exact (Form.strided v c s d) h =
-    let h2 = and-left (viewOk v && eachOf in32 (values c)) (eachOf in32 (values d)) h in
-    says (v .tensor .marked)
-    (ap (each (W.strided-of (W.listed (list-of d .text)) (W.listed (list-of c .text))))
-    (view-exact v (S.Travel.given (list-of c) s) (S.Ending.map (v .space′) (list-of d)) (and-left (viewOk v) (eachOf in32 (values c)) h2))
-    ∙ (λ i. some (W.view-of K.Strided (given-read d (and-right (viewOk v && eachOf in32 (values c)) (eachOf in32 (values d)) h) i)
-    (given-read c (and-right (viewOk v) (eachOf in32 (values c)) h2) i) unused (view-read v))))
-    (view-shown K.Strided v (values d) (values c) [])
-
--- ── no white byte at its end ──
-closed : (xs : List (List ℕ)) → less-trailing white (glue xs (bytes ">")) ≡ glue xs (bytes ">")
-closed [] = refl
-closed (x ∷ xs) = kept-some white (glue xs (bytes ">")) (some-left xs) (closed xs) x
+strides-hole : (st : Form.Strides) → Hole strides-shape (lit []) (Form.strides st)
+strides-hole Form.Strides.absent = record { front = []; tail = []; is-front = left the; is-tail = the; split = λ r. append-nil r }
+strides-hole (Form.Strides.given s c) = or-given (comma-in s ◂ say (bytes "strides=[") ◂ strs-in c ◂ say (bytes "]") ◂ at-end)
   where
-    some-left : (xs : List (List ℕ)) → T (not (vacant (glue xs (bytes ">"))))
-    some-left [] = tt
-    some-left ([] ∷ xs) = some-left xs
-    some-left ((c ∷ x) ∷ xs) = tt
+    or-given : {a b c : Shape} {g : List ℕ → List ℕ} → Hole a b g → Hole (alt c a) b g
+    or-given h = record { front = h .front; tail = h .tail; is-front = right (h .is-front); is-tail = h .is-tail; split = h .split }
 
-tight : (f : Form) → less-trailing white (spell f) ≡ spell f
-tight (Form.scalar n) = back-none white (Form.word n) (every-mono visible (non white) visible-nonwhite (Form.word n) (word-class visible tt n))
-tight (Form.token true) = refl
-tight (Form.token false) = refl
-tight (Form.ptr p) = closed (cuda (p .front) ∷ bytes "ptr<" ∷ Form.word (p .name) ∷ Form.mark (p .marked) ∷ [])
-tight (Form.tile b ds e) = closed (cuda b ∷ bytes "tile<" ∷ Form.dims ds ∷ Form.element e ∷ [])
-tight (Form.tensor b t) = closed (cuda b ∷ bytes "tensor_view<" ∷ Form.body t ∷ [])
-tight (Form.partition v c) = closed (cuda (v .front) ∷ bytes "partition_view<" ∷ Form.viewText v [] (Form.mapText c) ∷ [])
-tight (Form.gather v z) = closed (cuda (v .front) ∷ bytes "gather_scatter_view<" ∷ Form.viewText v [] (bytes "sparse_dim=" ⊕ decimal z) ∷ [])
-tight (Form.strided v c s d) = closed (cuda (v .front) ∷ bytes "strided_view<" ∷ Form.viewText v (Form.travelText c s) (Form.mapText d) ∷ [])
+body-hole : (t : Form.Tensor) → Hole body-shape (lit []) (body t)
+body-hole t = dims-in (t .shape) ◂ name-in (t .name) ◂ strides-hole (t .strides)
+
+abbrev before-mark : Shape
+before-mark = tile-shape (pad-shape ▸ intro-shape ▸ lit (bytes "tensor_view<") ▸ body-shape)
+
+view-hole : (w : Sight) → Hole before-mark (lit [] ▸ lit (bytes ">") ▸ comma-shape ▸ end) (inside w)
+view-hole w = say (bytes "tile=(") ◂ entries-in (w .view .tile) ◂ say (bytes ")") ◂ comma-in (w .view .space) ◂ w .middle .is ◂ pad-in (w .view .padding)
+    ◂ intro-in (w .view .intro) ◂ say (bytes "tensor_view<") ◂ H.inside (body-hole (w .view .tensor)) (say (bytes ">") & comma-in (w .view .space′) & w .end .is)
+
+-- ── each form ──
+-- a form with brackets: its hole, its text, what is found in it and what is shown of that
+module _ (f : B.Bracketed) {a c : Shape} {g : List ℕ → List ℕ} (h : Hole a c g) (k : T (fits f a c)) (b m : Bool) where
+  formed : {s : List ℕ} {t : Found} {x : Any} → g (may m theMark) ⊕ bytes ">" ≡ s → reading f (g []) ≡ some t → shown (attach m t) ≡ sure x →
+      each shown (parse (cuda b ⊕ opening f ⊕ s)) ≡ some (sure x)
+  formed e q p =
+      ap (λ (s : List ℕ). each shown (parse (cuda b ⊕ opening f ⊕ s))) (sym e) ∙ ap (each shown) (bracketed f h k b m ∙ ap (each (attach m)) q) ∙ ap some p
+
+scalar-reads : (n : Name) → parse (word n) ≡ some (plain K.Scalar (scalarOf n))
+unfolding parse O.mark O.unmarked O.forms scalar-name
+scalar-reads n = table parse (λ s. some (plain K.Scalar s)) words scalars refl (n .index) (ltb→lt (n .index) 22 (n .within))
+
+token-reads : (b : Bool) → parse (cuda b ⊕ bytes "token") ≡ some token
+unfolding parse O.mark O.unmarked
+token-reads true = refl
+token-reads false = refl
+
+pointer-reads : (n : Name) → O.pointer (word n ⊕ []) ≡ some (plain K.Pointer (scalarOf n))
+unfolding O.pointer
+pointer-reads n = ap (λ (s : List ℕ). each (plain K.Pointer) (scalar-name s)) (append-nil (word n)) ∙ ap (each (plain K.Pointer)) (name-word n)
+
+tensor-reads : (t : Form.Tensor) → T (tensorOk (t .shape) (t .strides)) → Tile.tensor-view (body t []) ≡ some (Tile.tensor-found (tensor-found t))
+unfolding Tile.tensor-view
+tensor-reads t h = ap (each Tile.tensor-found) (tensor-read t h)
 
 pub agrees : (f : Form) → T (ok f) → each shown (parse (spell f)) ≡ some (sure (mean f))
-agrees f h = ap (each shown) (itself (respelt (spelt f) (skeleton-reads (loosened f))) (tight f)) ∙ found-exact f h
+agrees (Form.scalar n) h = ap (each shown) (scalar-reads n) ∙ ap some (plain-shown K.Scalar (scalarOf n) false)
+agrees (Form.token b) h = ap (each shown) (token-reads b) ∙ ap some token-shown
+agrees (Form.ptr p) h =
+    formed B.pointer (name-in (p .name) ◂ at-end) tt (p .front) (p .marked) (append-assoc (word (p .name)) (Form.mark (p .marked)) (bytes ">"))
+    (pointer-reads (p .name)) (plain-shown K.Pointer (scalarOf (p .name)) (p .marked))
+agrees (Form.tile b ds (Form.plain n)) h =
+    formed B.tile (dims-in ds ◂ here (name-in n)) tt b false (append-assoc (dims ds) (word n) (bytes ">")) (tile-plain ds n h) (tile-shown false (map size ds) (scalarOf n) false)
+agrees (Form.tile b ds (Form.pointer p)) h =
+    formed B.tile (dims-in ds ◂ may-in (p .front) (bytes "!cuda_tile.") ◂ say (bytes "ptr<") ◂ name-in (p .name) ◂ here (say (bytes ">"))) tt b (p .marked)
+    (append-assoc (dims ds) (Form.pointerText p) (bytes ">")) (tile-pointer ds (p .front) (p .name) h) (tile-shown true (map size ds) (scalarOf (p .name)) (p .marked))
+agrees (Form.tensor b t) h = formed B.tensor (body-hole t) tt b (t .marked) refl (tensor-reads t h) (tensor-shown t)
+agrees (Form.partition v c) h =
+    formed B.partition (view-hole (with v no-travel (map-of c))) tt (v .front) (v .tensor .marked) refl
+    (partition-read v c (and-left (viewOk v) (eachOf in32 (values c)) h) (and-right (viewOk v) (eachOf in32 (values c)) h)) (view-shown K.Partition v (values c) [] [])
+agrees (Form.gather v z) h =
+    formed B.gather (view-hole (with v no-travel (sparse-of z))) tt (v .front) (v .tensor .marked) refl
+    (gather-read v z (and-left (viewOk v) (in32 z) h) (and-right (viewOk v) (in32 z) h)) (view-shown K.GatherScatter v [] [] (z ∷ []))
+agrees (Form.strided v c s d) h =
+    let h2 = and-left (viewOk v && eachOf in32 (values c)) (eachOf in32 (values d)) h in
+    formed B.strided (view-hole (with v (travel-of c s) (map-of d))) tt (v .front) (v .tensor .marked) refl
+    (strided-read v c s d (and-left (viewOk v) (eachOf in32 (values c)) h2) (and-right (viewOk v) (eachOf in32 (values c)) h2)
+    (and-right (viewOk v && eachOf in32 (values c)) (eachOf in32 (values d)) h)) (view-shown K.Strided v (values d) (values c) [])

@@ -6,8 +6,9 @@ use mathlib.Core.List.{List, [], _∷_, _++_, append-assoc, append-nil}
 use mathlib.Core.Option.{Option, none, some}
 use lib.Dec.{T, eqb, eqb→eq}
 use Rattle.lexis.specs.Text.{Cut, at, later, if_then_else_}
+use Rattle.lexis.proofs.Seeking.{turned}
 use Rattle.meaning.specs.Parts.{shallower, depth, close}
-use Rattle.grammar.specs.Tests.{every, and-left, and-right}
+use Rattle.grammar.specs.Tests.{every, and-left, and-right, T-not-eq}
 use Rattle.accord.proofs.Shape.{Shape, In, lit, run, alt, seq, the, all, left, right, both, pushes, pushes-++, pushes-at}
 
 abbrev pub moves : ℕ → List ℕ → Option ℕ
@@ -44,35 +45,19 @@ lit-ok (c ∷ l) d s = step (λ e. lit-ok l e s) (depth d c)
     step ih (some e) = lift c (moves e l) (close e (l ++ s)) l s (ih e)
 
 -- a byte of a class that lacks x is not x
-pub apart : (C : ℕ → Bool) (x b : ℕ) → T (not (C x)) → T (C b) → eqb b x ≡ false
-apart C x b n h = go (eqb b x) (λ e. no-both (C x) n (subst (λ (z : ℕ). T (C z)) (eqb→eq b x e) h))
-  where
-    no-both : (k : Bool) → T (not k) → T k → ⊥
-    no-both true n h = n
-    no-both false n h = h
-
-    go : (k : Bool) → (T k → ⊥) → k ≡ false
-    go true f = absurd (f tt)
-    go false f = refl
-
-pub apart-from : (C : ℕ → Bool) (x b : ℕ) → T (not (C x)) → T (C b) → eqb x b ≡ false
-apart-from C x b n h = go (eqb x b) (λ e. no-both (C x) n (subst (λ (z : ℕ). T (C z)) (sym (eqb→eq x b e)) h))
-  where
-    no-both : (k : Bool) → T (not k) → T k → ⊥
-    no-both true n h = n
-    no-both false n h = h
-
-    go : (k : Bool) → (T k → ⊥) → k ≡ false
-    go true f = absurd (f tt)
-    go false f = refl
-
--- a class that lacks x
 pub lacks : (C : ℕ → Bool) (x : ℕ) → T (not (C x)) → (c : ℕ) → T (C c) → T (not (eqb x c))
-lacks C x n c h = go (eqb x c) (apart-from C x c n h)
+lacks C x n c h = go (eqb x c) (λ e. no-both (C x) n (subst (λ (z : ℕ). T (C z)) (sym (eqb→eq x c e)) h))
   where
-    go : (k : Bool) → k ≡ false → T (not k)
-    go true e = subst (λ (z : Bool). T (not z)) (sym e) tt
-    go false e = tt
+    no-both : (k : Bool) → T (not k) → T k → ⊥
+    no-both true n h = n
+    no-both false n h = h
+
+    go : (k : Bool) → (T k → ⊥) → T (not k)
+    go true f = f tt
+    go false f = tt
+
+pub apart : (C : ℕ → Bool) (x b : ℕ) → T (not (C x)) → T (C b) → eqb b x ≡ false
+apart C x b n h = turned b x ∙ T-not-eq (eqb x b) (lacks C x n b h)
 
 run-ok : (C : ℕ → Bool) → T (not (C 60)) → T (not (C 62)) → (t : List ℕ) → T (every C t) → (d : ℕ) (s : List ℕ) → close d (t ++ s) ≡ pushes t (close d s)
 run-ok C n m [] h d s = refl

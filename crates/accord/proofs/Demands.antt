@@ -3,7 +3,7 @@
 use Prim.Native.Nat.{ℕ, _+_, _*_, _≤_}
 use native.Mathlib.Omega.{arith}
 use mathlib.Core.Bool.{Bool, true, false}
-use mathlib.Core.List.{List, [], _∷_, _++_}
+use mathlib.Core.List.{_++_}
 use mathlib.Core.Option.{Option, none, some}
 use mathlib.Core.Path.{_≡_, refl, subst, sym, ap, _∙_}
 use lib.Dec.{T, leb, leb→le}
@@ -12,14 +12,12 @@ use lib.Seq.{take-append-seam}
 use Rattle.lexis.specs.Text.{Text, if_then_else_}
 use Rattle.meaning.specs.declared.Reading.{Reading}
 use Rattle.meaning.specs.declared.Record.{Record}
-use Rattle.meaning.specs.declared.Refusal.{Refusal}
 use Rattle.meaning.specs.declared.Refusal.the-variants.{Accepted, TooLong, NotStrict, NotNormal, RoomShort}
 use Rattle.meaning.specs.Refusals.{number}
 use Rattle.meaning.specs.Normal.{normal}
 use Rattle.meaning.specs.Ordinary.{high-from, refused, read-ascii, ordinary}
 use Rattle.meaning.specs.Meant.{Judged, accepted, too-many, not-strict, Read-ascii, Strictly}
 use Rattle.meaning.specs.Written as W
-use Rattle.grammar.specs.Tests.{is-true}
 use Rattle.writer.proofs.Answers.{Arrays}
 use Rattle.writer.proofs.Short.{Ranged}
 use Rattle.meaning.proofs.Whens.{When}

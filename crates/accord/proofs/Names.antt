@@ -1,19 +1,17 @@
 -- Names: each spelling is read back, by one computed table; and the classes of their bytes.
 use Prim.Native.Nat.{ℕ, zero, suc, _<_}
 use native.Mathlib.Nat.{not-suc-le-zero, le-of-suc-le-suc}
-use mathlib.Core.Bool.{Bool, false, not}
+use mathlib.Core.Bool.{Bool}
 use mathlib.Core.List.{List, [], _∷_, map}
 use mathlib.Core.Option.{some}
-use mathlib.Core.Path.{_≡_, refl, subst, sym, ap, _∙_}
+use mathlib.Core.Path.{_≡_, refl}
 use lib.Dec.{T, ltb→lt}
 use lib.ListN.{length}
-use Rattle.lexis.specs.Text.{white}
-use Rattle.scalars.specs.Names.{names, named-in, scalar-name}
+use Rattle.scalars.specs.Names.{scalar-name}
 use Rattle.scalars.specs.declared.scalar.Scalar.{Scalar}
 use Rattle.scalars.specs.declared.scalar.Scalar.the-variants.{I1}
-use Rattle.grammar.specs.Tests.{every, and-left, and-right}
-use Rattle.accord.proofs.Num.{vacant, visible, trim-none, trim-around}
-use Rattle.meaning.specs.Strict.{_⊕_, nth, words, scalars, Name, word, scalarOf}
+use Rattle.grammar.specs.Tests.{every, every-nth}
+use Rattle.meaning.specs.Strict.{nth, words, scalars, Name, word, scalarOf}
 
 pub table : {B : Type 0} (f : List ℕ → B) (g : Scalar → B) (ws : List (List ℕ)) (ss : List Scalar) → map f ws ≡ map g ss →
     (i : ℕ) → i < length ws → f (nth [] ws i) ≡ g (nth I1 ss i)
@@ -26,19 +24,6 @@ pub name-word : (n : Name) → scalar-name (word n) ≡ some (scalarOf n)
 unfolding scalar-name
 name-word n = table scalar-name some words scalars refl (n .index) (ltb→lt (n .index) 22 (n .within))
 
-pub each-class : (C : ℕ → Bool) (ws : List (List ℕ)) → T (every (every C) ws) → (i : ℕ) → T (every C (nth [] ws i))
-each-class C [] h i = tt
-each-class C (w ∷ ws) h zero = and-left (every C w) (every (every C) ws) h
-each-class C (w ∷ ws) h (suc i) = each-class C ws (and-right (every C w) (every (every C) ws) h) i
-
 -- a test that each spelling passes, computed once
 pub word-class : (C : ℕ → Bool) → T (every (every C) words) → (n : Name) → T (every C (word n))
-word-class C h n = each-class C words h (n .index)
-
-pub word-any : (n : Name) → T (not (vacant (word n)))
-word-any n = subst (λ (k : Bool). T (not k)) (sym (table vacant (λ s. false) words scalars refl (n .index) (ltb→lt (n .index) 22 (n .within)))) tt
-
--- a name with white space around it
-pub spaced-name : (w : List ℕ) (n : Name) (w′ : List ℕ) → T (every white w) → T (every white w′) → scalar-name (w ⊕ word n ⊕ w′) ≡ some (scalarOf n)
-unfolding scalar-name
-spaced-name w n w′ h h′ = ap (named-in names) (trim-around w (word n) w′ h (word-class visible tt n) (word-any n) h′ ∙ sym (trim-none (word n) (word-class visible tt n))) ∙ name-word n
+word-class C h n = every-nth (every C) [] tt words h (n .index)

@@ -2,25 +2,23 @@
 use Prim.Native.Nat.{ℕ, zero, suc, _+_, _-_, _*_, _/_, _%_, _^_, _≤_, _<_}
 use native.Mathlib.Omega.{arith}
 use native.Mathlib.Nat.{mod-lt, zero-lt-suc, div-add-mod, le-refl}
-use mathlib.Core.Bool.{Bool, true, false, _&&_, _||_, not}
+use mathlib.Core.Bool.{Bool, true, false, _||_, not}
 use mathlib.Core.List.{List, [], _∷_, _++_, append-nil}
 use mathlib.Core.Option.{none, some}
-use mathlib.Core.Path.{_≡_, refl, ap, _∙_}
-use lib.Dec.{T, eqb, leb, ltb, le→leb, leb→le, ltb→lt, nltb→le, eqb→eq}
+use mathlib.Core.Path.{_≡_, refl, sym, ap, _∙_}
+use lib.Dec.{T, eqb, leb, ltb, leb→le, ltb→lt, nltb→le, eqb→eq}
 use lib.IntN.{ℤ, pos, negsuc}
 use Rattle.lexis.specs.Text.{white, trim, less-leading, less-trailing, unless-last, if_then_else_}
 use Rattle.numerals.specs.Numeral.{digit, number-from, number, at-most, minus, numeral}
+use Rattle.numerals.proofs.Walking.{white-low}
 use Rattle.meaning.specs.Decimal.{digits, decimal}
-use Rattle.grammar.specs.Tests.{every, and-left, and-right, and-in, is-true, T-not-eq}
-use Rattle.grammar.specs.Digits.{small}
+use Rattle.grammar.specs.Tests.{every, and-left, and-right, or-left, or-cases, is-true, T-not-eq, every-mono}
+use Rattle.grammar.specs.Digits.{small, digit-ok, digits-digit, decimal-over}
 use Rattle.accord.proofs.Bracket.{apart}
 
 abbrev pub vacant : List ℕ → Bool
 vacant [] = true
 vacant (c ∷ s) = false
-
-digit-ok : (d : ℕ) → d < 10 → T (digit (48 + d))
-digit-ok d h = and-in (leb 48 (48 + d)) (leb (48 + d) 57) (le→leb 48 (48 + d) (omega arith)) (le→leb (48 + d) 57 (omega arith))
 
 horner-step : (a c : ℕ) (s : List ℕ) → T (digit c) → number-from a (c ∷ s) ≡ number-from (a * 10 + (c - 48)) s
 horner-step a c s h = ap (λ (k : Bool). if k then number-from (a * 10 + (c - 48)) s else none) (is-true (digit c) h)
@@ -28,7 +26,7 @@ horner-step a c s h = ap (λ (k : Bool). if k then number-from (a * 10 + (c - 48
 horner-digit : (a d n : ℕ) (s : List ℕ) → d < 10 → a * 10 + d ≡ n → number-from a ((48 + d) ∷ s) ≡ number-from n s
 horner-digit a d n s h e = horner-step a (48 + d) s (digit-ok d h) ∙ ap (λ (z : ℕ). number-from z s) (omega arith)
 
-pub digits-horner : (f n : ℕ) (ds : List ℕ) → n ≤ f → number-from 0 (digits f n ds) ≡ number-from n ds
+digits-horner : (f n : ℕ) (ds : List ℕ) → n ≤ f → number-from 0 (digits f n ds) ≡ number-from n ds
 digits-horner zero n ds h = let e : n ≡ 0 = omega arith in rw e
 digits-horner (suc f) n ds h = go (ltb n 10) (ltb→lt n 10) (nltb→le n 10) (λ q. digits-horner f (n / 10) ((48 + n % 10) ∷ ds) (small n f h q))
   where
@@ -38,39 +36,12 @@ digits-horner (suc f) n ds h = go (ltb n 10) (ltb→lt n 10) (nltb→le n 10) (�
     go false p q r = r (q tt) ∙ horner-digit (n / 10) (n % 10) n ds (mod-lt n (zero-lt-suc 9)) (let e = div-add-mod n 10 in omega arith)
 
 -- ── classes ──
-pub every-mono : (C D : ℕ → Bool) → ((c : ℕ) → T (C c) → T (D c)) → (t : List ℕ) → T (every C t) → T (every D t)
-every-mono C D f [] h = tt
-every-mono C D f (c ∷ t) h = and-in (D c) (every D t) (f c (and-left (C c) (every C t) h)) (every-mono C D f t (and-right (C c) (every C t) h))
-
-pub every-++ : (C : ℕ → Bool) (a b : List ℕ) → T (every C a) → T (every C b) → T (every C (a ++ b))
-every-++ C [] b h k = k
-every-++ C (c ∷ a) b h k = and-in (C c) (every C (a ++ b)) (and-left (C c) (every C a) h) (every-++ C a b (and-right (C c) (every C a) h) k)
-
-pub digits-digit : (f n : ℕ) (ds : List ℕ) → T (every digit ds) → T (every digit (digits f n ds))
-digits-digit zero n ds h = and-in (digit (48 + n % 10)) (every digit ds) (digit-ok (n % 10) (mod-lt n (zero-lt-suc 9))) h
-digits-digit (suc f) n ds h = go (ltb n 10) (ltb→lt n 10) (digits-digit f (n / 10) ((48 + n % 10) ∷ ds)
-    (and-in (digit (48 + n % 10)) (every digit ds) (digit-ok (n % 10) (mod-lt n (zero-lt-suc 9))) h))
+pub digits-any : (f n : ℕ) (ds : List ℕ) → T (not (vacant (digits f n ds)))
+digits-any zero n ds = tt
+digits-any (suc f) n ds = go (ltb n 10) (digits-any f (n / 10) ((48 + n % 10) ∷ ds))
   where
-    go : (k : Bool) → (T k → n < 10) → T (every digit (digits f (n / 10) ((48 + n % 10) ∷ ds))) →
-        T (every digit (elim k [ true ↦ (48 + n) ∷ ds | false ↦ digits f (n / 10) ((48 + n % 10) ∷ ds) ]))
-    go true q r = and-in (digit (48 + n)) (every digit ds) (digit-ok n (q tt)) h
-    go false q r = r
-
-digits-some : (f n : ℕ) (c : ℕ) (ds : List ℕ) → T (not (vacant (digits f n (c ∷ ds))))
-digits-some zero n c ds = tt
-digits-some (suc f) n c ds = go (ltb n 10) (digits-some f (n / 10) (48 + n % 10) (c ∷ ds))
-  where
-    go : (k : Bool) → T (not (vacant (digits f (n / 10) ((48 + n % 10) ∷ c ∷ ds)))) →
-        T (not (vacant (elim k [ true ↦ (48 + n) ∷ c ∷ ds | false ↦ digits f (n / 10) ((48 + n % 10) ∷ c ∷ ds) ])))
-    go true r = tt
-    go false r = r
-
-pub digits-any : (f n : ℕ) → T (not (vacant (digits f n [])))
-digits-any zero n = tt
-digits-any (suc f) n = go (ltb n 10) (digits-some f (n / 10) (48 + n % 10) [])
-  where
-    go : (k : Bool) → T (not (vacant (digits f (n / 10) ((48 + n % 10) ∷ [])))) →
-        T (not (vacant (elim k [ true ↦ (48 + n) ∷ [] | false ↦ digits f (n / 10) ((48 + n % 10) ∷ []) ])))
+    go : (k : Bool) → T (not (vacant (digits f (n / 10) ((48 + n % 10) ∷ ds)))) →
+        T (not (vacant (elim k [ true ↦ (48 + n) ∷ ds | false ↦ digits f (n / 10) ((48 + n % 10) ∷ ds) ])))
     go true r = tt
     go false r = r
 
@@ -78,25 +49,12 @@ digits-any (suc f) n = go (ltb n 10) (digits-some f (n / 10) (48 + n % 10) [])
 abbrev pub figure : ℕ → Bool
 figure c = digit c || (eqb c 45 || eqb c 63)
 
-abbrev pub visible : ℕ → Bool
-visible c = ltb 32 c
-
-pub or-left : (a b : Bool) → T a → T (a || b)
-or-left true b h = tt
-or-left false b h = absurd h
-
-pub or-cases : {X : Type 0} (a b : Bool) → (T a → X) → (T b → X) → T (a || b) → X
-or-cases true b f g h = f tt
-or-cases false b f g h = g h
-
-pub figure-visible : (c : ℕ) → T (figure c) → T (visible c)
-figure-visible c h = or-cases (digit c) (eqb c 45 || eqb c 63)
-    (λ d. le→leb 33 c (let p = leb→le 48 c (and-left (leb 48 c) (leb c 57) d) in omega arith))
-    (or-cases (eqb c 45) (eqb c 63) (λ e. le→leb 33 c (let p = eqb→eq c 45 e in omega arith)) (λ e. le→leb 33 c (let p = eqb→eq c 63 e in omega arith))) h
+figure-high : (c : ℕ) → T (figure c) → 33 ≤ c
+figure-high c h = or-cases (digit c) (eqb c 45 || eqb c 63) (λ d. let p = leb→le 48 c (and-left (leb 48 c) (leb c 57) d) in omega arith)
+    (or-cases (eqb c 45) (eqb c 63) (λ e. let p = eqb→eq c 45 e in omega arith) (λ e. let p = eqb→eq c 63 e in omega arith)) h
 
 pub decimal-figure : (z : ℤ) → T (every figure (decimal z))
-decimal-figure (pos n) = every-mono digit figure (λ c h. or-left (digit c) (eqb c 45 || eqb c 63) h) (digits n n []) (digits-digit n n [] tt)
-decimal-figure (negsuc n) = every-mono digit figure (λ c h. or-left (digit c) (eqb c 45 || eqb c 63) h) (digits (suc n) (suc n) []) (digits-digit (suc n) (suc n) [] tt)
+decimal-figure z = decimal-over figure (λ c h. or-left (digit c) (eqb c 45 || eqb c 63) h) tt z
 
 -- ── trimming does nothing where nothing of the class stands ──
 abbrev pub non : (ℕ → Bool) → ℕ → Bool
@@ -107,53 +65,29 @@ front-none C [] h = refl
 front-none C (c ∷ t) h =
     ap (λ (k : Bool). if k then less-leading C t else c ∷ t) (T-not-eq (C c) (and-left (non C c) (every (non C) t) h))
 
-pub keep-same : (C : ℕ → Bool) (c : ℕ) (t : List ℕ) → C c ≡ false → unless-last C c t ≡ c ∷ t
+keep-same : (C : ℕ → Bool) (c : ℕ) (t : List ℕ) → C c ≡ false → unless-last C c t ≡ c ∷ t
 keep-same C c [] e = ap (λ (k : Bool). if k then [] else c ∷ []) e
 keep-same C c (x ∷ t) e = refl
-
-pub back-none : (C : ℕ → Bool) (t : List ℕ) → T (every (non C) t) → less-trailing C t ≡ t
-back-none C [] h = refl
-back-none C (c ∷ t) h =
-    ap (unless-last C c) (back-none C t (and-right (non C c) (every (non C) t) h)) ∙ keep-same C c t (T-not-eq (C c) (and-left (non C c) (every (non C) t) h))
 
 pub back-past : (C : ℕ → Bool) (t s : List ℕ) → T (every (non C) t) → less-trailing C (t ++ s) ≡ t ++ less-trailing C s
 back-past C [] s h = refl
 back-past C (c ∷ t) s h =
     ap (unless-last C c) (back-past C t s (and-right (non C c) (every (non C) t) h)) ∙ keep-same C c (t ++ less-trailing C s) (T-not-eq (C c) (and-left (non C c) (every (non C) t) h))
 
--- and all where all is of the class
-pub front-all : (C : ℕ → Bool) (t s : List ℕ) → T (every C t) → less-leading C (t ++ s) ≡ less-leading C s
-front-all C [] s h = refl
-front-all C (c ∷ t) s h =
-    ap (λ (k : Bool). if k then less-leading C (t ++ s) else c ∷ (t ++ s)) (is-true (C c) (and-left (C c) (every C t) h)) ∙ front-all C t s (and-right (C c) (every C t) h)
+pub trim-none : (t : List ℕ) → T (every (non white) t) → trim t ≡ t
+trim-none t h =
+    ap (less-trailing white) (front-none white t h ∙ sym (append-nil t)) ∙ back-past white t [] h ∙ append-nil t
 
-pub back-all : (C : ℕ → Bool) (t : List ℕ) → T (every C t) → less-trailing C t ≡ []
-back-all C [] h = refl
-back-all C (c ∷ t) h =
-    ap (unless-last C c) (back-all C t (and-right (C c) (every C t) h)) ∙ ap (λ (k : Bool). if k then [] else c ∷ []) (is-true (C c) (and-left (C c) (every C t) h))
-
-pub visible-nonwhite : (c : ℕ) → T (visible c) → T (non white c)
-visible-nonwhite c h = let q = leb→le 33 c h in go (white c) (λ w. or-cases (leb 9 c && leb c 13) (eqb c 32) (λ d. let p = leb→le c 13 (and-right (leb 9 c) (leb c 13) d) in omega arith)
-    (λ e. let p = eqb→eq c 32 e in omega arith) w)
+-- no figure is white
+pub figure-ink : (c : ℕ) → T (figure c) → T (non white c)
+figure-ink c h = go (white c) (white-low c)
   where
-    go : (k : Bool) → (T k → ⊥) → T (not k)
-    go true f = absurd (f tt)
+    go : (k : Bool) → (k ≡ true → c ≤ 32) → T (not k)
+    go true f = let p = f refl in let q = figure-high c h in omega arith
     go false f = tt
 
--- white space around a text goes
-pub trim-around : (w t w′ : List ℕ) → T (every white w) → T (every visible t) → T (not (vacant t)) → T (every white w′) → trim (w ++ (t ++ w′)) ≡ t
-trim-around w t w′ h v n h′ =
-    let k = every-mono visible (non white) visible-nonwhite t v in
-    ap (less-trailing white) (front-all white w (t ++ w′) h ∙ begun t k n) ∙ back-past white t w′ k ∙ ap (λ (l : List ℕ). t ++ l) (back-all white w′ h′) ∙ append-nil t
-  where
-    begun : (t : List ℕ) → T (every (non white) t) → T (not (vacant t)) → less-leading white (t ++ w′) ≡ t ++ w′
-    begun [] k n = absurd n
-    begun (c ∷ t) k n = ap (λ (b : Bool). if b then less-leading white (t ++ w′) else c ∷ (t ++ w′)) (T-not-eq (white c) (and-left (non white c) (every (non white) t) k))
-
-pub trim-none : (t : List ℕ) → T (every visible t) → trim t ≡ t
-trim-none t h =
-    let n = every-mono visible (non white) visible-nonwhite t h in
-    ap (less-trailing white) (front-none white t n) ∙ back-none white t n
+pub decimal-tight : (z : ℤ) → trim (decimal z) ≡ decimal z
+decimal-tight z = trim-none (decimal z) (every-mono figure (non white) figure-ink (decimal z) (decimal-figure z))
 
 -- ── a numeral is read back ──
 number-some : (t : List ℕ) → T (not (vacant t)) → number t ≡ number-from 0 t
@@ -176,13 +110,10 @@ ranged w (negsuc n) = leb (suc n) (2 ^ (w - 1))
 kept : (limit : ℕ) (value : ℕ → ℤ) (n : ℕ) → T (leb n limit) → at-most limit value (some n) ≡ some (value n)
 kept limit value n h = ap (λ (k : Bool). if k then some (value n) else none) (is-true (leb n limit) h)
 
-pub decimal-visible : (z : ℤ) → T (every visible (decimal z))
-decimal-visible z = every-mono figure visible figure-visible (decimal z) (decimal-figure z)
-
 pub numeral-decimal : (w : ℕ) (z : ℤ) → T (ranged w z) → numeral w (decimal z) ≡ some z
 numeral-decimal w (pos n) h =
-    numeral-digits w (digits n n []) (digits-digit n n [] tt) (digits-any n n)
+    numeral-digits w (digits n n []) (digits-digit n n [] tt) (digits-any n n [])
     ∙ ap (at-most (2 ^ (w - 1) - 1) pos) (digits-horner n n [] (le-refl n)) ∙ kept (2 ^ (w - 1) - 1) pos n h
 numeral-decimal w (negsuc n) h =
-    ap (at-most (2 ^ (w - 1)) minus) (number-some (digits (suc n) (suc n) []) (digits-any (suc n) (suc n)) ∙ digits-horner (suc n) (suc n) [] (le-refl (suc n)))
+    ap (at-most (2 ^ (w - 1)) minus) (number-some (digits (suc n) (suc n) []) (digits-any (suc n) (suc n) []) ∙ digits-horner (suc n) (suc n) [] (le-refl (suc n)))
     ∙ kept (2 ^ (w - 1)) minus (suc n) h

@@ -204,7 +204,7 @@ absent P {sh} {t} i h =
 abbrev pub clears : List ℕ → List ℕ → Shape → Bool
 clears P l sh = every (λ q. clash q l) (goes P [] sh)
 
-pub skip : (P l : List ℕ) {sh : Shape} {t : List ℕ} → In sh t → T (clears P l sh) → (s : List ℕ) → cut P (t ++ (l ++ s)) ≡ pushes t (cut P (l ++ s))
+skip : (P l : List ℕ) {sh : Shape} {t : List ℕ} → In sh t → T (clears P l sh) → (s : List ℕ) → cut P (t ++ (l ++ s)) ≡ pushes t (cut P (l ++ s))
 skip P l {sh} i h s = through P i (l ++ s) [] (clashes-ok l s (goes P [] sh) h) .found
 
 begins-self : (P s : List ℕ) → begins P (P ++ s) ≡ true

@@ -2,11 +2,11 @@
 -- the three columns are computed by the checker, and the strict one is turned into the definition by `answer-right`.
 use Prim.Native.Nat.{ℕ}
 use Prim.Native.String.{String}
-use mathlib.Core.Bool.{true, false}
+use mathlib.Core.Bool.{false}
 use mathlib.Core.List as L
 use mathlib.Core.List.{List, [], _∷_, _++_}
 use mathlib.Core.Option.{Option, none, some}
-use mathlib.Core.Path.{_≡_, refl, subst, sym, ap, _∙_}
+use mathlib.Core.Path.{_≡_, refl, subst, ap}
 use native.Mathlib.Omega.{arith}
 use lib.Dec.{eqb}
 use lib.IntN.{pos}
@@ -23,7 +23,7 @@ use Rattle.meaning.specs.Meant.{Strictly, fits, flat-any, taken}
 use Rattle.meaning.specs.Normal.{lists-clear, rest-blank, normal}
 use Rattle.meaning.specs.Written as W
 use Rattle.meaning.proofs.Open.{reading}
-use Rattle.meaning.proofs.Answers.{Row, row, type, refused, DYN, answers}
+use Rattle.meaning.proofs.Answers.{Row, row, type, refused, DYN}
 use Rattle.meaning.proofs.Rows.{rows}
 use Rattle.grammar.proofs.Answer.{answer, answer-right}
 

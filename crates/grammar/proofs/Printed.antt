@@ -1,42 +1,38 @@
--- Every byte of a strict text is from 32 to 127, part by part.
-use Prim.Native.Nat.{ℕ, zero, suc, _+_, _/_, _%_, _<_}
-use native.Mathlib.Nat.{mod-lt, zero-lt-suc}
+-- Every byte of a strict text is below 128, part by part.
+use Prim.Native.Nat.{ℕ, suc}
 use native.Mathlib.Omega.{arith}
-use mathlib.Core.Bool.{Bool, true, false, _&&_}
+use mathlib.Core.Bool.{Bool, true, false}
 use mathlib.Core.List.{List, [], _∷_, _++_}
 use mathlib.Core.Option.{none}
 use mathlib.Core.Path.{_≡_, refl, sym, subst}
-use borrow.Author.Tests.{lt-leb, ltb-true}
-use lib.Dec.{T, ltb, leb, lt→ltb, ltb→lt, le→leb}
-use lib.IntN.{ℤ, pos, negsuc}
+use borrow.Author.Tests.{lt-leb}
+use lib.Dec.{T, leb, ltb, leb→le, lt→ltb, ltb→lt}
+use lib.IntN.{ℤ}
 use Rattle.lexis.specs.Text.{Text, bytes}
-use Rattle.meaning.specs.Decimal.{digits, decimal, Dim, dynamic, known, dim}
+use Rattle.meaning.specs.Decimal.{decimal, Dim, dynamic, known, dim}
 use Rattle.meaning.specs.Ordinary.{high-from}
 use Rattle.meaning.specs.Strict as S
-use Rattle.meaning.specs.Strict.{may, nth, words, pads, Name, Place, word, pad, comma, Next, Commas, rest, commas, dims, xrest, Entries, byX, byComma}
+use Rattle.meaning.specs.Strict.{may, words, pads, Name, Place, word, pad, comma, Next, Commas, rest, commas, dims, xrest, Entries, byX, byComma}
 use Rattle.meaning.specs.Strict.{entries, cuda, mark, Pointer, pointerText, Element, element, Strides, strides, Tensor, body, Pads, padText, Intro, bare}
 use Rattle.meaning.specs.Strict.{prefixed, named, introText, View, viewText, mapText, travelText, Form, spell}
 use Rattle.meaning.specs.Meant.{Any, Strict}
-use Rattle.grammar.specs.Tests.{every, and-left, and-right, and-in}
+use Rattle.grammar.specs.Tests.{every, and-left, and-right, every-++, every-nth}
+use Rattle.grammar.specs.Digits.{decimal-over}
 
--- ── bytes from 32 to 127 ──
+-- ── bytes below 128 ──
 
-abbrev printed : ℕ → Bool
-printed b = leb 32 b && ltb b 128
+abbrev low : ℕ → Bool
+low b = ltb b 128
 
 abbrev plain : Text → Bool
-plain = every printed
+plain = every low
 
 record Plain (t : Text) : Type 0 where
   within : T (plain t)
 
 infixr 60 _also_
 _also_ : {a b : Text} → Plain a → Plain b → Plain (a ++ b)
-_also_ {a} {b} p q = record { within = by a (p .within) }
-  where
-    by : (a : Text) → T (plain a) → T (plain (a ++ b))
-    by [] h = q .within
-    by (c ∷ a) h = and-in (printed c) (plain (a ++ b)) (and-left (printed c) (plain a) h) (by a (and-right (printed c) (plain a) h))
+_also_ {a} {b} p q = record { within = every-++ low a b (p .within) (q .within) }
 
 quoted : (t : Text) → T (plain t) → Plain t
 quoted t h = record { within = h }
@@ -44,35 +40,16 @@ quoted t h = record { within = h }
 nil : Plain []
 nil = record { within = tt }
 
-listed : (l : List Text) (i : ℕ) → T (every plain l) → T (plain (nth [] l i))
-listed [] i h = tt
-listed (t ∷ l) zero h = and-left (plain t) (every plain l) h
-listed (t ∷ l) (suc i) h = listed l i (and-right (plain t) (every plain l) h)
-
 none-high : (k : ℕ) (t : Text) → T (plain t) → high-from k t ≡ none
 none-high k [] h = refl
 none-high k (b ∷ t) h =
-    let e = lt-leb 128 b (ltb→lt b 128 (and-right (leb 32 b) (ltb b 128) (and-left (printed b) (plain t) h))) in
-    rw e (none-high (suc k) t (and-right (printed b) (plain t) h))
+    let e = lt-leb 128 b (ltb→lt b 128 (and-left (low b) (plain t) h)) in
+    rw e (none-high (suc k) t (and-right (low b) (plain t) h))
 
 -- ── numbers ──
 
-digit-plain : (d : ℕ) (t : Text) → d < 10 → T (plain t) → T (plain ((48 + d) ∷ t))
-digit-plain d t k h =
-    and-in (printed (48 + d)) (plain t) (and-in (leb 32 (48 + d)) (ltb (48 + d) 128) (le→leb 32 (48 + d) (omega arith)) (lt→ltb (48 + d) 128 (omega arith))) h
-
-digits-plain : (f n : ℕ) (t : Text) → T (plain t) → T (plain (digits f n t))
-digits-plain zero n t h = digit-plain (n % 10) t (mod-lt n (zero-lt-suc 9)) h
-digits-plain (suc f) n t h = by (ltb n 10) (ltb-true n 10) (digits-plain f (n / 10) ((48 + n % 10) ∷ t) (digit-plain (n % 10) t (mod-lt n (zero-lt-suc 9)) h))
-  where
-    by : (b : Bool) → (b ≡ true → n < 10) → T (plain (digits f (n / 10) ((48 + n % 10) ∷ t))) →
-        T (plain (elim b as (λ _. Text) [ true ↦ (48 + n) ∷ t | false ↦ digits f (n / 10) ((48 + n % 10) ∷ t) ]))
-    by true e k = digit-plain n t (e refl) h
-    by false e k = k
-
 decimal-plain : (z : ℤ) → Plain (decimal z)
-decimal-plain (pos n) = record { within = digits-plain n n [] tt }
-decimal-plain (negsuc n) = record { within = digits-plain (suc n) (suc n) [] tt }
+decimal-plain z = record { within = decimal-over low (λ c h. lt→ltb c 128 (let k = leb→le c 57 (and-right (leb 48 c) (leb c 57) h) in omega arith)) tt z }
 
 dim-plain : (d : Dim) → Plain (dim d)
 dim-plain dynamic = quoted (bytes "?") tt
@@ -85,10 +62,10 @@ may-plain true h = h
 may-plain false h = nil
 
 word-plain : (n : Name) → Plain (word n)
-word-plain n = record { within = listed words (n .index) tt }
+word-plain n = record { within = every-nth plain [] tt words tt (n .index) }
 
 pad-plain : (p : Place 5) → Plain (pad p)
-pad-plain p = record { within = listed pads (p .index) tt }
+pad-plain p = record { within = every-nth plain [] tt pads tt (p .index) }
 
 comma-plain : (s : Bool) → Plain (comma s)
 comma-plain s = quoted (bytes ",") tt also may-plain s (quoted (bytes " ") tt)

@@ -5,10 +5,11 @@ use native.Mathlib.Nat.{mod-lt, zero-lt-suc, div-add-mod, le-refl}
 use mathlib.Core.Bool.{Bool, true, false, not}
 use mathlib.Core.List.{List, [], _∷_, _++_, append-nil}
 use mathlib.Core.Path.{_≡_, refl, ap, _∙_}
-use lib.Dec.{T, leb, ltb, leb→le, ltb→lt, lt→ltb, nltb→le}
+use lib.Dec.{T, leb, ltb, le→leb, leb→le, ltb→lt, lt→ltb, nltb→le}
+use lib.IntN.{ℤ, pos, negsuc}
 use Rattle.numerals.specs.Numeral.{digit}
-use Rattle.meaning.specs.Decimal.{digits}
-use Rattle.grammar.specs.Tests.{every, and-left, and-right}
+use Rattle.meaning.specs.Decimal.{digits, decimal}
+use Rattle.grammar.specs.Tests.{every, and-left, and-right, and-in, every-mono}
 
 pub small : (n f : ℕ) → n ≤ suc f → 10 ≤ n → n / 10 ≤ f
 small n f h k = let e = div-add-mod n 10 in omega arith
@@ -67,3 +68,23 @@ canonical d s h k t = more s [] d (suc d) (value d s) h t (omega arith) (le-refl
     one : (b : Bool) → T b → _≡_ {A = List ℕ} (elim b [ true ↦ (48 + d) ∷ (s ++ []) | false ↦ digits d (d / 10) ((48 + d % 10) ∷ (s ++ [])) ]) ((48 + d) ∷ (s ++ []))
     one true t = refl
     one false t = absurd t
+
+-- ── its bytes ──
+pub digit-ok : (d : ℕ) → d < 10 → T (digit (48 + d))
+digit-ok d h = and-in (leb 48 (48 + d)) (leb (48 + d) 57) (le→leb 48 (48 + d) (omega arith)) (le→leb (48 + d) 57 (omega arith))
+
+pub digits-digit : (f n : ℕ) (ds : List ℕ) → T (every digit ds) → T (every digit (digits f n ds))
+digits-digit zero n ds h = and-in (digit (48 + n % 10)) (every digit ds) (digit-ok (n % 10) (mod-lt n (zero-lt-suc 9))) h
+digits-digit (suc f) n ds h = go (ltb n 10) (ltb→lt n 10) (digits-digit f (n / 10) ((48 + n % 10) ∷ ds)
+    (and-in (digit (48 + n % 10)) (every digit ds) (digit-ok (n % 10) (mod-lt n (zero-lt-suc 9))) h))
+  where
+    go : (k : Bool) → (T k → n < 10) → T (every digit (digits f (n / 10) ((48 + n % 10) ∷ ds))) →
+        T (every digit (elim k [ true ↦ (48 + n) ∷ ds | false ↦ digits f (n / 10) ((48 + n % 10) ∷ ds) ]))
+    go true q r = and-in (digit (48 + n)) (every digit ds) (digit-ok n (q tt)) h
+    go false q r = r
+
+-- a class with the digits and `-`
+pub decimal-over : (D : ℕ → Bool) → ((c : ℕ) → T (digit c) → T (D c)) → T (D 45) → (z : ℤ) → T (every D (decimal z))
+decimal-over D f m (pos n) = every-mono digit D f (digits n n []) (digits-digit n n [] tt)
+decimal-over D f m (negsuc n) =
+    and-in (D 45) (every D (digits (suc n) (suc n) [])) m (every-mono digit D f (digits (suc n) (suc n) []) (digits-digit (suc n) (suc n) [] tt))

@@ -5,7 +5,6 @@ pub mod Piece
 pub mod Join
 pub mod Until
 pub mod Table
-pub mod Scored
 pub mod Number
 pub mod Spelt
 pub mod Several

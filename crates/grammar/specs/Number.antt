@@ -6,13 +6,13 @@ use mathlib.Core.Bool.{Bool, true, false, _&&_, _||_, not}
 use mathlib.Core.List.{List, [], _∷_, _++_, append-assoc, append-nil}
 use mathlib.Core.Logic.{_⊎_, inl, inr}
 use mathlib.Core.Path.{_≡_, refl, subst, sym, ap, _∙_}
-use lib.Dec.{T, eqb, leb, ltb, eqb→eq, eqb-refl, T-not, not-T, le→leb, leb→le, ltb→lt, lt→ltb, nltb→le}
+use lib.Dec.{T, eqb, leb, ltb, eqb→eq, eqb-refl, T-not, not-T, leb→le, ltb→lt, lt→ltb, nltb→le}
 use lib.IntN.{ℤ, pos, negsuc}
 use Rattle.lexis.specs.Text.{bytes}
 use Rattle.meaning.specs.Decimal.{digits, decimal}
 use Rattle.numerals.specs.Numeral.{digit}
-use Rattle.grammar.specs.Tests.{and-left, and-right, every, and-in, is-true, T-not-eq}
-use Rattle.grammar.specs.Digits.{small, value, fuel, step, grows, canonical}
+use Rattle.grammar.specs.Tests.{and-left, and-right, every, and-in, is-true, T-not-eq, every-++}
+use Rattle.grammar.specs.Digits.{small, value, fuel, step, grows, canonical, digit-ok}
 use Rattle.grammar.specs.Piece.{member, stops, heads, Answer, got, stuck, Alike, Good, Some, Piece}
 use Rattle.grammar.specs.Join.{map, bind, either, restate}
 use Rattle.grammar.specs.Table.{table, _↝_}
@@ -184,13 +184,6 @@ module _ (lim : ℕ) where
     value-snoc v c [] = refl
     value-snoc v c (x ∷ s) = value-snoc (v * 10 + (x - 48)) c s
 
-    every-snoc : (c : ℕ) (s : List ℕ) → T (every digit s) → T (digit c) → T (every digit (s ++ (c ∷ [])))
-    every-snoc c [] h d = and-in (digit c) true d tt
-    every-snoc c (x ∷ s) h d = and-in (digit x) (every digit (s ++ (c ∷ []))) (and-left (digit x) (every digit s) h) (every-snoc c s (and-right (digit x) (every digit s) h) d)
-
-    last-digit : (n : ℕ) → T (digit (48 + n % 10))
-    last-digit n = let m = mod-lt n (zero-lt-suc 9) in and-in (leb 48 (48 + n % 10)) (leb (48 + n % 10) 57) (le→leb 48 (48 + n % 10) (omega arith)) (le→leb (48 + n % 10) 57 (omega arith))
-
     figures : (f n : ℕ) (ds : List ℕ) → n ≤ f → 1 ≤ n → Figures n (digits f n ds) ds
     figures zero n ds h k = let f : ⊥ = omega arith in absurd f
     figures (suc f) n ds h k = go (ltb n 10) (ltb→lt n 10) (nltb→le n 10)
@@ -204,7 +197,7 @@ module _ (lim : ℕ) where
           tail = g .tail ++ ((48 + n % 10) ∷ []);
           low = g .low;
           high = g .high;
-          each = every-snoc (48 + n % 10) (g .tail) (g .each) (last-digit n);
+          each = every-++ digit (g .tail) ((48 + n % 10) ∷ []) (g .each) (and-in (digit (48 + n % 10)) true (digit-ok (n % 10) (mod-lt n (zero-lt-suc 9))) tt);
           sum = value-snoc (g .lead) (48 + n % 10) (g .tail) ∙ (let s = g .sum in let e = div-add-mod n 10 in omega arith);
           text = g .text ∙ ap (λ (z : List ℕ). (48 + g .lead) ∷ z) (sym (append-assoc (g .tail) ((48 + n % 10) ∷ []) ds));
         }

@@ -1,7 +1,7 @@
 -- Pieces with a syntax: one after the other, other values, other syntax, the words of a finite syntax.
 use Prim.Native.Nat.{ℕ}
 use mathlib.Core.Bool.{Bool, false, _&&_}
-use mathlib.Core.List.{List, [], _++_}
+use mathlib.Core.List.{List, _++_}
 use mathlib.Core.Path.{_≡_, refl, subst, sym, ap, _∙_}
 use lib.Dec.{T}
 use Rattle.meaning.specs.Strict.{_⊕_}

@@ -6,7 +6,7 @@ use mathlib.Core.Bool.{Bool, true, false, _&&_, _||_, not}
 use mathlib.Core.List.{List, [], _∷_, _++_, append-assoc, append-nil}
 use mathlib.Core.Path.{_≡_, refl, subst, sym, ap, _∙_}
 use lib.Dec.{T, eqb, eqb→eq, T-not, not-T}
-use Rattle.grammar.specs.Tests.{and-left, and-right}
+use Rattle.grammar.specs.Tests.{and-left, and-right, or-cases}
 
 -- ── sets of bytes, as lists ──
 abbrev pub member : ℕ → List ℕ → Bool
@@ -33,19 +33,15 @@ abbrev pub heads : Bool → List ℕ → List ℕ → Bool
 heads n F [] = n
 heads n F (c ∷ t) = member c F
 
-or-elim : {X : Type 0} (a b : Bool) → (T a → X) → (T b → X) → T (a || b) → X
-or-elim true b f g h = f tt
-or-elim false b f g h = g h
-
 pub within-ok : (F E : List ℕ) (c : ℕ) → T (within F E) → T (member c F) → T (member c E)
 within-ok [] E c w m = absurd m
-within-ok (x ∷ F) E c w m = or-elim (eqb c x) (member c F)
+within-ok (x ∷ F) E c w m = or-cases (eqb c x) (member c F)
     (λ e. subst (λ (z : ℕ). T (member z E)) (sym (eqb→eq c x e)) (and-left (member x E) (within F E) w))
     (λ h. within-ok F E c (and-right (member x E) (within F E) w) h) m
 
 pub apart-ok : (F E : List ℕ) (c : ℕ) → T (apart F E) → T (member c F) → T (not (member c E))
 apart-ok [] E c w m = absurd m
-apart-ok (x ∷ F) E c w m = or-elim (eqb c x) (member c F)
+apart-ok (x ∷ F) E c w m = or-cases (eqb c x) (member c F)
     (λ e. subst (λ (z : ℕ). T (not (member z E))) (sym (eqb→eq c x e)) (and-left (not (member x E)) (apart F E) w))
     (λ h. apart-ok F E c (and-right (not (member x E)) (apart F E) w) h) m
 

@@ -11,7 +11,7 @@ use Rattle.lexis.specs.Text.{bytes}
 use Rattle.meaning.specs.Decimal.{decimal, Dim, dynamic, known, dim, size, in32, in64}
 use Rattle.meaning.specs.Strict.{_⊕_, Next, Commas, comma, commas, values, rest, dims, xrest, Entries, byX, byComma, entries, entriesOf}
 use Rattle.meaning.specs.Meant.{eachOf}
-use Rattle.grammar.specs.Tests.{and-left, and-right, and-in}
+use Rattle.grammar.specs.Tests.{and-left, and-right, and-in, or-left}
 use Rattle.grammar.specs.Piece.{member, apart, within, Piece}
 use Rattle.grammar.specs.Join.{map, bind, either, restate}
 use Rattle.grammar.specs.Until.{until, Row, Ended, first}
@@ -69,12 +69,8 @@ self X = all X X (λ c m. m)
   where
     all : (Y Z : List ℕ) → ((c : ℕ) → T (member c Y) → T (member c Z)) → T (within Y Z)
     all [] Z f = tt
-    all (y ∷ Y) Z f = and-in (member y Z) (within Y Z) (f y (or-in (eqb y y) (member y Y) (eqb-refl y))) (all Y Z (λ c m. f c (or-right (eqb c y) (member c Y) m)))
+    all (y ∷ Y) Z f = and-in (member y Z) (within Y Z) (f y (or-left (eqb y y) (member y Y) (eqb-refl y))) (all Y Z (λ c m. f c (or-right (eqb c y) (member c Y) m)))
       where
-        or-in : (a b : Bool) → T a → T (a || b)
-        or-in true b h = tt
-        or-in false b h = absurd h
-
         or-right : (a b : Bool) → T b → T (a || b)
         or-right true b h = tt
         or-right false b h = h

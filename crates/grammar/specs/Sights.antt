@@ -12,7 +12,7 @@ use Rattle.meaning.specs.declared.Padding.the-variants as P
 use Rattle.meaning.specs.Strict.{_⊕_, comma, Place, pad, pads, paddings, paddingOf, Tensor, body, Pads, padText, Intro, introText}
 use Rattle.meaning.specs.Meant.{padsOf}
 use Rattle.grammar.specs.Tests.{and-left, and-right, and-in}
-use Rattle.grammar.specs.Piece.{apart, Piece}
+use Rattle.grammar.specs.Piece.{Piece}
 use Rattle.grammar.specs.Join.{restate}
 use Rattle.grammar.specs.Until.{Ended}
 use Rattle.grammar.specs.Table.{table, Among, sound-table}
@@ -169,9 +169,6 @@ pub tens-from : (m : Mid) (v : Sight) (t : List ℕ) → Spelt (tsOk m) tsText t
 tens-from bare v t i = i
 tens-from padded v t i = i
 
-abbrev nowhere : (F : List ℕ) → T (apart F [])
-nowhere F = nothing F
-
 -- ── a list that ends with the coming of the tensor view, and the tensor view ──
 pub record Scene : Type 0 where
   pub list : List ℤ
@@ -200,7 +197,7 @@ module _ {F : List ℕ} {X : Type 0} (P : Piece false F (Ended ℤ Mid) quiet) (
   module _ (to : (e : Ended ℤ Mid) (t : List ℕ) → P .In e t → Spelt frontOk frontText frontMean e t) (from : (e : Ended ℤ Mid) (t : List ℕ) → Spelt frontOk frontText frontMean e t → P .In e t) where
     abbrev pub scene-pair : Piece false F Scene quiet
     scene-pair = pair P (λ e. false) (λ e. tsF (e .last)) (λ e. turned (scene e) quiet (tens-part (e .last)) (λ a. tt) (tsOk (e .last)) tsText tsMean (tens-to (e .last)) (tens-from (e .last)))
-        (λ e. nowhere (tsF (e .last))) (λ e b. absurd) frontOk frontText frontMean (λ e. tsOk (e .last)) tsText (λ e s. scene e (tsMean s)) to from (λ a b t i. i) (λ a b t i. i)
+        (λ e. nothing (tsF (e .last))) (λ e b. absurd) frontOk frontText frontMean (λ e. tsOk (e .last)) tsText (λ e s. scene e (tsMean s)) to from (λ a b t i. i) (λ a b t i. i)
 
     abbrev pub sceneOk : SceneS X → Bool
     sceneOk s = ok (s .list) && bodyOk (s .tensor)

@@ -25,6 +25,14 @@ abbrev pub Row : {A B : Type 0} → (A → List ℕ → Type 0) → (B → List 
 Row In End [] b t = End b t
 Row In End (x ∷ xs) b t = Then In (λ a c v. (a ≡ x) × Row In End xs c v) b t
 
+-- an item is not empty
+pub shorter : {F : List ℕ} {A : Type 0} {E : A → List ℕ} (P : Piece false F A E) (t r : List ℕ) (a : A) → Full (P .In) (P .read) t a r → length r < length t
+shorter {F} P t r a f = by (f .text) (P .leads a (f .text) (f .is)) (f .split)
+  where
+    by : (u : List ℕ) → T (heads false F u) → u ++ r ≡ t → length r < length t
+    by [] h e = absurd h
+    by (c ∷ u) h e = let l = ap length (sym e) in let m = length-append u r in omega arith
+
 module _ {F G : List ℕ} {A B : Type 0} {E : A → List ℕ} {E′ : B → List ℕ} (P : Piece false F A E) (Q : Piece false G B E′)
     (sep : T (apart G F)) (fol : (a : A) → T (apart (F ++ G) (E a))) where
   abbrev pub until-in : Ended A B → List ℕ → Type 0
@@ -44,16 +52,9 @@ module _ {F G : List ℕ} {A B : Type 0} {E : A → List ℕ} {E′ : B → List
   abbrev pub finish : List ℕ → Answer (Ended A B)
   finish x = mapped ended (Q .read x)
 
-  shorter : (t r : List ℕ) (a : A) → Full (P .In) (P .read) t a r → length r < length t
-  shorter t r a f = by (f .text) (P .leads a (f .text) (f .is)) (f .split)
-    where
-      by : (u : List ℕ) → T (heads false F u) → u ++ r ≡ t → length r < length t
-      by [] h e = absurd h
-      by (c ∷ u) h e = let l = ap length (sym e) in let m = length-append u r in omega arith
-
   step : (k m : ℕ) (t : List ℕ) (p : Answer A) → Good (P .In) (P .read) t p → ((r : List ℕ) → length r < length t → loop k r ≡ loop m r) →
       after (λ a r. mapped (first a) (loop k r)) p ≡ after (λ a r. mapped (first a) (loop m r)) p
-  step k m t (got a r) g h = ap (mapped (first a)) (h r (shorter t r a g))
+  step k m t (got a r) g h = ap (mapped (first a)) (h r (shorter P t r a g))
   step k m t (stuck r) g h = refl
 
   pub enough : (k m : ℕ) (t : List ℕ) → length t < k → length t < m → loop k t ≡ loop m t
@@ -66,7 +67,7 @@ module _ {F G : List ℕ} {A B : Type 0} {E : A → List ℕ} {E′ : B → List
 
   step′ : (k : ℕ) (t : List ℕ) (p : Answer A) → Good (P .In) (P .read) t p → length t ≤ k →
       after (λ a r. mapped (first a) (loop k r)) p ≡ after (λ a r. mapped (first a) (until-read r)) p
-  step′ k t (got a r) g h = let q = shorter t r a g in ap (mapped (first a)) (enough k (suc (length r)) r (omega arith) (omega arith))
+  step′ k t (got a r) g h = let q = shorter P t r a g in ap (mapped (first a)) (enough k (suc (length r)) r (omega arith) (omega arith))
   step′ k t (stuck r) g h = refl
 
   -- THE EQUATION of the loop
@@ -94,7 +95,7 @@ module _ {F G : List ℕ} {A B : Type 0} {E : A → List ℕ} {E′ : B → List
           Good until-in until-read (c ∷ t) (cond b (again (c ∷ t)) (finish (c ∷ t)))
       by true e ih = moved (Then (P .In) (λ a. Image (first a) until-in)) until-in again until-read c t e into (again (c ∷ t))
           (chains (P .In) (P .read) (λ a. Image (first a) until-in) (λ a r. mapped (first a) (until-read r)) any (c ∷ t) (P .read (c ∷ t)) (P .good (c ∷ t))
-          (λ a r f. image-good (first a) until-in until-read r (until-read r) (ih r (shorter (c ∷ t) r a f))))
+          (λ a r f. image-good (first a) until-in until-read r (until-read r) (ih r (shorter P (c ∷ t) r a f))))
       by false e ih = moved (Image ended (Q .In)) until-in finish until-read c t e stop (finish (c ∷ t))
           (image-good ended (Q .In) (Q .read) (c ∷ t) (Q .read (c ∷ t)) (Q .good (c ∷ t)))
 

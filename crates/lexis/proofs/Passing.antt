@@ -10,7 +10,7 @@ use native.Mathlib.Omega.{arith}
 use lib.Dec.{eqb}
 use lib.ListN.{length, take, drop, getD, length-drop, drop-of-length-le}
 use lib.Seq.{drop-drop, getD-drop}
-use Rattle.lexis.specs.Text.{if_then_else_, begins, after, Cut, nowhere, at, later, cut, place, some-of, until}
+use Rattle.lexis.specs.Text.{if_then_else_, begins, Cut, nowhere, at, later, cut, place, some-of, until}
 use Rattle.lexis.proofs.Lists.{view}
 use Rattle.lexis.proofs.Seeking.{never, shifted, miss, until-within}
 

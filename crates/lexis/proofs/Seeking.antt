@@ -83,13 +83,6 @@ module _ (p s : List ℕ) (i : ℕ) where
   pub gone : length s ≤ i → begins p (drop i s) ≡ false → shifted i (place (cut p (drop i s))) ≡ none
   gone h e = rw (drop-of-length-le s h) (rw (rw (drop-of-length-le s h) at e))
 
--- a text of a byte or more: it stands nowhere in nothing, and nowhere where its first byte doesn't
-pub some-first : (p s : List ℕ) (i : ℕ) → (length p ≡ 0 → ⊥) → i < length s → (getD s i 0 ≡ getD p 0 0 → ⊥) → begins p (drop i s) ≡ false
-some-first p s i z h n = differs p s 0 i (omega arith) h (λ e. n (sym e))
-
-pub nothing-left : (p s : List ℕ) (i : ℕ) → (length p ≡ 0 → ⊥) → length s ≤ i → begins p (drop i s) ≡ false
-nothing-left p s i z h = ended p s 0 i (omega arith) h
-
 pub nothing-sought : (p s : List ℕ) → length p ≡ 0 → some 0 ≡ place (cut p s)
 nothing-sought [] s z = sym (here [] s refl)
 nothing-sought (c ∷ p) s z = let f : ⊥ = omega arith in absurd f

@@ -17,7 +17,6 @@ use Rattle.lexis.proofs.text.find_by.Reads as find-by
 use Rattle.lexis.proofs.text.contains.Reads as contains
 use Rattle.lexis.proofs.text.until.Reads as until
 use Rattle.lexis.proofs.text.white.Reads as white
-use Rattle.lexis.proofs.text.skip_white.Reads as skip-white
 use Rattle.lexis.proofs.text.trim.Reads as trim
 use Rattle.lexis.proofs.text.trim_start_matches.Reads as trim-start-matches
 use Rattle.lexis.proofs.text.trim_end_matches.Reads as trim-end-matches
@@ -61,9 +60,6 @@ seek-outside-one κs a x y s t p q = p ∙ sym q
 
 pub white-one : One white.Post
 white-one κs a x y s t p q = p ∙ sym q
-
-pub skip-white-one : One skip-white.Post
-skip-white-one κs a x y s t p q = p ∙ sym q
 
 -- ── returned slices ──
 

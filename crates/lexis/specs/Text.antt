@@ -3,7 +3,7 @@ use Prim.Native.Nat.{ℕ}
 use Prim.Native.Char.{code}
 use Prim.Native.String as S
 use Prim.Native.String.{String}
-use mathlib.Core.Bool.{Bool, true, false, _&&_, _||_, not}
+use mathlib.Core.Bool.{Bool, true, false, _&&_, _||_}
 use mathlib.Core.List.{List, [], _∷_}
 use mathlib.Core.Option.{Option, none, some}
 use lib.Dec.{leb, ltb, eqb}
@@ -126,10 +126,6 @@ less-trailing p (b ∷ s) = unless-last p b (less-trailing p s)
 -- bytes 9 to 13 and 32 (01, module 1)
 abbrev pub white : ℕ → Bool
 white b = (leb 9 b && leb b 13) || eqb b 32
-
--- a byte that isn't
-abbrev pub ink : ℕ → Bool
-ink b = not (white b)
 
 abbrev pub trim : Text → Text
 trim s = less-trailing white (less-leading white s)

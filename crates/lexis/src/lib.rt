@@ -11,7 +11,6 @@ pub use text::contains;
 pub use text::find;
 pub use text::find_by;
 pub use text::same;
-pub use text::skip_white;
 pub use text::trim;
 pub use text::trim_end_matches;
 pub use text::trim_start_matches;

@@ -1,11 +1,11 @@
 // Seeking and trimming.
 use super::blocks::seek;
 ghost use mathlib.Core.Path.{_≡_};
-ghost use Prim.Native.Nat.{_+_, _≤_, _<_};
+ghost use Prim.Native.Nat.{_≤_, _<_};
 ghost use lib.Dec.{eqb};
 ghost use lib.ListN.{drop, length};
 ghost use Rattle.lexis.specs.Text.{same, begins, cut, place, spot, occurs, until};
-ghost use Rattle.lexis.specs.Text.{less-leading, less-trailing, white, ink, trim};
+ghost use Rattle.lexis.specs.Text.{less-leading, less-trailing, white, trim};
 
 // Where a text first occurs.
 pub enum Found {
@@ -107,20 +107,6 @@ pub fn white(b: u8) -> bool
     ensures { λ r. ⌜ r ≡ white b ⌝ }
 {
     (9 <= b) & (b <= 13) | (b == 32)
-}
-
-// The place of the first byte from `from` on that isn't white, as `seek` tells that of a byte. Mostly it is `from` or the next.
-pub fn skip_white(text: &[u8], from: usize) -> usize
-    ensures { λ r. ⌜ r ≡ from + length (until ink (drop from (now (text .entry)))) ⌝ }
-{
-    let mut i = from;
-    while i < text.len() {
-        if !white(text[i]) {
-            return i;
-        }
-        i += 1;
-    }
-    i
 }
 
 fn trim_start(text: &[u8]) -> &[u8]

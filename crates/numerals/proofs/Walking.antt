@@ -5,16 +5,14 @@ use mathlib.Core.Bool.{Bool, true, false, _&&_, _||_, not, false≢true}
 use mathlib.Core.List.{[], _∷_}
 use mathlib.Core.Option.{none, some}
 use Prim.Native.Nat.{ℕ, _+_, _-_, _*_, _^_, _≤_, _<_}
-use native.Mathlib.Nat.{zero-add, add-zero}
 use native.Mathlib.Omega.{arith}
 use borrow.Author.Tests.{eqb-true, eqb-false, ltb-true, leb-true, leb-false, ne-eqb, le-leb, lt-leb}
 use lib.Dec.{eqb, leb, ltb}
 use lib.IntN.{pos}
 use lib.ListN.{length, take, drop, getD, drop-of-length-le, List·getD-eq-default}
-use lib.Seq.{drop-drop, getD-drop}
-use Rattle.lexis.specs.Text.{Text, if_then_else_, until, less-trailing, unless-last, white, ink, trim}
+use Rattle.lexis.specs.Text.{Text, if_then_else_, until, less-trailing, unless-last, white, trim}
 use Rattle.numerals.specs.Numeral.{digit, number-from, number, at-most, minus, numeral}
-use Rattle.numerals.specs.Parts.{apart, odd, Running}
+use Rattle.numerals.specs.Parts.{ink, apart, odd}
 use Rattle.lexis.proofs.Lists.{view}
 use Rattle.lexis.proofs.Seeking.{never, until-step, until-stop, until-here, until-take}
 
@@ -76,6 +74,14 @@ quiet x f =
         by false true p q e = ne-eqb x b (λ k. let g = q refl in omega arith)
         by false false p q e = absurd (false≢true e)
 
+-- digits have been passed from the place k of s up to i, and wrote n: left out of what stands before the next byte that passes p
+pub record Running (p : ℕ → Bool) (s : Text) (k i n : ℕ) : Type 0 where
+  pub onward : k ≤ i
+  pub len : k + length (until p (drop k s)) ≡ i + length (until p (drop i s))
+  pub same : number-from 0 (until p (drop k s)) ≡ number-from n (until p (drop i s))
+  pub trimmed : number-from 0 (less-trailing white (until p (drop k s))) ≡ number-from n (less-trailing white (until p (drop i s)))
+  pub lead : (i ≡ k → ⊥) → 48 ≤ getD s k 0
+
 pub begun : (p : ℕ → Bool) (s : Text) (k : ℕ) → Running p s k k 0
 begun p s k = record { onward = omega arith; len = refl; same = refl; trimmed = refl; lead = λ n. absurd (n refl) }
 
@@ -108,32 +114,6 @@ module _ {p : ℕ → Bool} (q : Quiet p) where
           → trim (until p (b ∷ t)) ≡ trim (until p (drop (n c) (b ∷ t)))
       by true w g r = rw (g refl, w) r
       by false w g r = refl
-
-  nothing-behind : (t : Text) → until p (drop (first t) t) ≡ [] → less-trailing white (until p t) ≡ []
-  nothing-behind [] e = refl
-  nothing-behind (b ∷ t) e = by (white b) refl (q .on-white b) (nothing-behind t) e
-    where
-      n : Bool → ℕ
-      n c = length (if not c then [] else b ∷ until ink t)
-
-      by : (c : Bool) → white b ≡ c → (c ≡ true → p b ≡ false) → (until p (drop (first t) t) ≡ [] → less-trailing white (until p t) ≡ [])
-          → until p (drop (n c) (b ∷ t)) ≡ [] → less-trailing white (until p (b ∷ t)) ≡ []
-      by true w g r e = rw (g refl) (ap (unless-last white b) (r e) ∙ rw w)
-      by false w g r e = ap (less-trailing white) e
-
-  -- those from the place m on end at i
-  module _ (s : Text) (m : ℕ) {i : ℕ} (a : i ≡ m + length (until ink (drop m s))) where
-    rest-at : drop (first (drop m s)) (drop m s) ≡ drop i s
-    rest-at = drop-drop (first (drop m s)) m s ∙ ap (λ (z : ℕ). drop z s) (sym a)
-
-    pub white-len : m + length (until p (drop m s)) ≡ i + length (until p (drop i s))
-    white-len = let l = len-behind (drop m s) in let k = ap (λ (t : Text). length (until p t)) rest-at in omega arith
-
-    pub white-trim : trim (until p (drop m s)) ≡ trim (until p (drop i s))
-    white-trim = trim-behind (drop m s) ∙ ap (λ (t : Text). trim (until p t)) rest-at
-
-    pub white-all : p (getD s i 0) ≡ true → less-trailing white (until p (drop m s)) ≡ []
-    white-all h = nothing-behind (drop m s) (ap (until p) rest-at ∙ until-here p s i h)
 
   -- ── one digit more, and the end ──
 
@@ -276,11 +256,11 @@ module _ (w : ℕ) where
 -- ── the whole part, where white bytes stand before i ──
 
 module _ {p : ℕ → Bool} (q : Quiet p) (s : Text) {i : ℕ} (a : i ≡ length (until ink s)) where
-  at-front : i ≡ 0 + length (until ink (drop 0 s))
-  at-front = a ∙ sym (zero-add (length (until ink s)))
+  white-len : length (until p s) ≡ i + length (until p (drop i s))
+  white-len = len-behind q s ∙ ap (λ (n : ℕ). n + length (until p (drop n s))) (sym a)
 
   pub plus-len : {e : ℕ} → e ≡ i + length (until p (drop i s)) → e ≡ length (until p s)
-  plus-len v = v ∙ sym (white-len q s 0 at-front) ∙ zero-add (length (until p s))
+  plus-len v = v ∙ sym white-len
 
   pub minus-len : getD s i 0 ≡ 45 → {e : ℕ} → e ≡ (i + 1) + length (until p (drop (i + 1) s)) → e ≡ length (until p s)
   minus-len k {e} v = let l = ap length (behind p s i k (omega arith) (q .on-minus)) in plus-len (let o : e ≡ i + length (until p (drop i s)) = omega arith in o)
@@ -288,7 +268,7 @@ module _ {p : ℕ → Bool} (q : Quiet p) (s : Text) {i : ℕ} (a : i ≡ length
   -- the numeral of the whole part
   module _ (w : ℕ) where
     whole : numeral w (trim (until p s)) ≡ numeral w (trim (until p (drop i s)))
-    whole = ap (numeral w) (white-trim q s 0 at-front)
+    whole = ap (numeral w) (trim-behind q s ∙ ap (λ (n : ℕ). trim (until p (drop n s))) (sym a))
 
     signed-whole : getD s i 0 ≡ 45 → numeral w (trim (until p s)) ≡ numeral w (trim (45 ∷ until p (drop (i + 1) s)))
     signed-whole k = whole ∙ ap (λ (t : Text). numeral w (trim t)) (behind p s i k (omega arith) (q .on-minus))
@@ -308,65 +288,6 @@ module _ {p : ℕ → Bool} (q : Quiet p) (s : Text) {i : ℕ} (a : i ≡ length
 
     pub minus-odd : getD s i 0 ≡ 45 → number (less-trailing white (until p (drop (i + 1) s))) ≡ none → none ≡ numeral w (trim (until p s))
     minus-odd k e = sym (signed-whole k ∙ behind-minus w (until p (drop (i + 1) s)) ∙ ap (at-most (2 ^ (w - 1)) minus) e)
-
--- ── for callers: a part from the place m on, with white bytes at both ends ──
-
--- white bytes up to i, a minus if `neg`, digits from k up to j that wrote n, white bytes up to e
-pub record Gone (p : ℕ → Bool) (s : Text) (m i : ℕ) (neg : Bool) (k j n e : ℕ) : Type 0 where
-  pub front : i ≡ m + length (until ink (drop m s))
-  pub sign : neg ≡ eqb (getD s i 0) 45
-  pub start : k ≡ if neg then i + 1 else i
-  pub digits : Running p s k j n
-  pub back : e ≡ j + length (until ink (drop j s))
-
-module _ {p : ℕ → Bool} (q : Quiet p) {s : Text} {m i : ℕ} {neg : Bool} {k j n e : ℕ} (g : Gone p s m i neg k j n e) where
-  signed-rest : until p (drop i s) ≡ if neg then 45 ∷ until p (drop k s) else until p (drop k s)
-  signed-rest = by neg (g .sign) (g .start)
-    where
-      by : (d : Bool) → d ≡ eqb (getD s i 0) 45 → k ≡ (if d then i + 1 else i) → until p (drop i s) ≡ if d then 45 ∷ until p (drop k s) else until p (drop k s)
-      by true v z = behind p s i (eqb-true (getD s i 0) 45 (sym v)) (omega arith) (q .on-minus) ∙ ap (λ (l : ℕ). 45 ∷ until p (drop l s)) (sym z)
-      by false v z = ap (λ (l : ℕ). until p (drop l s)) (sym z)
-
-  signed-len : i + length (until p (drop i s)) ≡ k + length (until p (drop k s))
-  signed-len = by neg (g .start) signed-rest
-    where
-      by : (d : Bool) → k ≡ (if d then i + 1 else i) → until p (drop i s) ≡ (if d then 45 ∷ until p (drop k s) else until p (drop k s))
-          → i + length (until p (drop i s)) ≡ k + length (until p (drop k s))
-      by true z v = let l = ap length v in omega arith
-      by false z v = let l = ap length v in omega arith
-
-  -- nothing that passes has been passed over
-  pub gone-len : m + length (until p (drop m s)) ≡ e + length (until p (drop e s))
-  gone-len = white-len q s m (g .front) ∙ signed-len ∙ g .digits .len ∙ white-len q s j (g .back)
-
-  -- the part ends at e, and has digits
-  module _ (h : p (getD s e 0) ≡ true) (z : k < j) where
-    pub gone-end : e ≡ m + length (until p (drop m s))
-    gone-end = let l = ap length (until-here p s e h) in let v = gone-len in omega arith
-
-    some-digit : 48 ≤ getD (drop k s) 0 0
-    some-digit = rw (getD-drop k s 0 0, add-zero) (g .digits .lead (λ v. omega arith))
-
-    gone-number : number (less-trailing white (until p (drop k s))) ≡ some n
-    gone-number =
-        first-kept (drop k s) (let l = g .digits .len in omega arith) some-digit
-        ∙ g .digits .trimmed ∙ ap (number-from n) (white-all q s j (g .back) h)
-      where
-        first-kept : (t : Text) → 0 < length (until p t) → 48 ≤ getD t 0 0 → number (less-trailing white (until p t)) ≡ number-from 0 (less-trailing white (until p t))
-        first-kept [] l v = let f : ⊥ = omega arith in absurd f
-        first-kept (b ∷ t) l v = by (p b) l
-          where
-            by : (d : Bool) → 0 < length (if d then [] else b ∷ until p t)
-                → number (less-trailing white (if d then [] else b ∷ until p t)) ≡ number-from 0 (less-trailing white (if d then [] else b ∷ until p t))
-            by true l = let f : ⊥ = omega arith in absurd f
-            by false l = rw (kept b (less-trailing white (until p t)) (black b (omega arith)))
-
-    pub gone-numeral : (w : ℕ) → n ≤ 2 ^ (w - 1) - 1 → some (if neg then minus n else pos n) ≡ numeral w (trim (until p (drop m s)))
-    gone-numeral w l = sym (ap (numeral w) (white-trim q s m (g .front)) ∙ ap (λ (t : Text). numeral w (trim t)) signed-rest ∙ by neg)
-      where
-        by : (d : Bool) → numeral w (trim (if d then 45 ∷ until p (drop k s) else until p (drop k s))) ≡ some (if d then minus n else pos n)
-        by true = behind-minus w (until p (drop k s)) ∙ ap (at-most (2 ^ (w - 1)) minus) gone-number ∙ rw (le-leb n (2 ^ (w - 1)) (omega arith))
-        by false = bare w p (drop k s) some-digit ∙ ap (at-most (2 ^ (w - 1) - 1) pos) gone-number ∙ rw (le-leb n (2 ^ (w - 1) - 1) l)
 
 -- ── a part that is sought first: its k bytes ──
 

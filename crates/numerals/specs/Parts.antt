@@ -6,9 +6,9 @@ use mathlib.Core.List.{[], _∷_}
 use mathlib.Core.Option.{Option, none, some}
 use mathlib.Core.Path.{_≡_}
 use lib.Dec.{leb, ltb, eqb}
-use lib.ListN.{length, drop, getD}
+use lib.ListN.{length, getD}
 use Rattle.lexis.specs.Text.{Text, if_then_else_, until, less-trailing, white}
-use Rattle.numerals.specs.Numeral.{number-from, number}
+use Rattle.numerals.specs.Numeral.{number}
 use Rattle.numerals.specs.declared.numeral.Magnitude.{Magnitude}
 use Rattle.numerals.specs.declared.numeral.Magnitude.the-variants.{Of, NoDigits}
 use Rattle.numerals.specs.declared.numeral.Size.{Size}
@@ -39,6 +39,10 @@ sized most (b ∷ s) =
 
 -- ── parts of a list ──
 
+-- a byte that isn't white
+abbrev pub ink : ℕ → Bool
+ink b = not (white b)
+
 -- a comma, or past the digits
 abbrev pub apart : ℕ → Bool
 apart x = eqb x (code ",") || leb (suc (code "9")) x
@@ -46,14 +50,6 @@ apart x = eqb x (code ",") || leb (suc (code "9")) x
 -- neither white nor a digit
 abbrev pub odd : ℕ → Bool
 odd b = not (white b) && (ltb b (code "0") || ltb (code "9") b)
-
--- digits have been passed from the place k of s up to i, and wrote n: left out of what stands before the next byte that passes p
-pub record Running (p : ℕ → Bool) (s : Text) (k i n : ℕ) : Type 0 where
-  pub onward : k ≤ i
-  pub len : k + length (until p (drop k s)) ≡ i + length (until p (drop i s))
-  pub same : number-from 0 (until p (drop k s)) ≡ number-from n (until p (drop i s))
-  pub trimmed : number-from 0 (less-trailing white (until p (drop k s))) ≡ number-from n (less-trailing white (until p (drop i s)))
-  pub lead : (i ≡ k → ⊥) → 48 ≤ getD s k 0
 
 -- t up to the first x is digits that write n, at most `most`, or begins with one and is no number, trimmed; e is its end, where t
 -- begins at the place k

@@ -1,7 +1,7 @@
 -- Scalars (01, module 2): the 16 types, their 22 accepted spellings, widths and classes.
 use Prim.Native.Nat.{ℕ, _*_}
 use Prim.Native.String.{String}
-use mathlib.Core.Bool.{Bool, true, false, not}
+use mathlib.Core.Bool.{Bool, true, false}
 use mathlib.Core.List.{List, [], _∷_}
 use mathlib.Core.Option.{Option, none, some}
 use Rattle.lexis.specs.Text.{Text, bytes, if_then_else_, same, trim}

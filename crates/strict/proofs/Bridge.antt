@@ -31,12 +31,12 @@ use Rattle.strict.proofs.Rows.{parts}
 use Rattle.strict.proofs.Picking.{choose-label}
 
 -- one part after another, in other values: the law of every step below
-pub join : {A A′ B B′ : Type 0} (h : A → A′) (f′ : A′ → List ℕ → Answer B′) (f : A → List ℕ → Answer B) (g : B → B′) →
+join : {A A′ B B′ : Type 0} (h : A → A′) (f′ : A′ → List ℕ → Answer B′) (f : A → List ℕ → Answer B) (g : B → B′) →
     ((a : A) (r : List ℕ) → f′ (h a) r ≡ mapped g (f a r)) → (p : Answer A) → after f′ (mapped h p) ≡ mapped g (after f p)
 join h f′ f g e (got a r) = e a r
 join h f′ f g e (stuck r) = refl
 
-pub twice : {A B D : Type 0} (f : A → B) (g : B → D) (p : Answer A) → mapped g (mapped f p) ≡ mapped (λ a. g (f a)) p
+twice : {A B D : Type 0} (f : A → B) (g : B → D) (p : Answer A) → mapped g (mapped f p) ≡ mapped (λ a. g (f a)) p
 twice f g (got a r) = refl
 twice f g (stuck r) = refl
 
@@ -46,13 +46,13 @@ marked k = eqb k 1
 abbrev pub core-said : I.Cored → G.Core
 core-said c = record { pointer = c .pointer; element = scalar (c .word); attribute = c .marked }
 
-pub name-is : (t : List ℕ) → G.names .read t ≡ mapped scalar (choose I.names t)
+name-is : (t : List ℕ) → G.names .read t ≡ mapped scalar (choose I.names t)
 name-is t = choose-label scalar I.names t
 
 -- a pointer's content, by the table of what closes it: alone, or with the end of the tile around it
 module _ (w table : List ℕ) (h : T (sound-table quiet (bytes ">,") (listed (G.ends w) (λ (m : Bool). m) two)))
     (close-is : (t : List ℕ) → pick t (listed (G.ends w) (λ (m : Bool). m) two) ≡ mapped marked (choose table t)) where
-  pub pointee-by : (t : List ℕ) → G.pointee w h .read t ≡ mapped core-said (I.pointee table t)
+  pointee-by : (t : List ℕ) → G.pointee w h .read t ≡ mapped core-said (I.pointee table t)
   pointee-by t = ap (after (λ (s : Scalar) r. mapped (G.closed s) (pick r (listed (G.ends w) (λ (m : Bool). m) two)))) (name-is t)
       ∙ join scalar (λ (s : Scalar) r. mapped (G.closed s) (pick r (listed (G.ends w) (λ (m : Bool). m) two))) (I.closing table) core-said
       (λ k r. ap (mapped (G.closed (scalar k))) (close-is r) ∙ twice marked (G.closed (scalar k)) (choose table r) ∙ sym (twice (I.closed k) core-said (choose table r))) (choose I.names t)
@@ -60,7 +60,7 @@ module _ (w table : List ℕ) (h : T (sound-table quiet (bytes ">,") (listed (G.
 pub pointee-is : (t : List ℕ) → G.pointee (bytes ">") tt .read t ≡ mapped core-said (I.pointee I.close t)
 pointee-is = pointee-by (bytes ">") I.close tt (λ t. choose-label marked I.close t)
 
-pub pointee-both-is : (t : List ℕ) → G.pointee (bytes ">>") tt .read t ≡ mapped core-said (I.pointee I.close-both t)
+pointee-both-is : (t : List ℕ) → G.pointee (bytes ">>") tt .read t ≡ mapped core-said (I.pointee I.close-both t)
 pointee-both-is = pointee-by (bytes ">>") I.close-both tt (λ t. choose-label marked I.close-both t)
 
 -- ── a tile's element ──
@@ -71,10 +71,10 @@ kern-of false s = G.point
 abbrev pub kern-said : ℕ → G.Kern
 kern-said k = kern-of (ltb k 22) (scalar k)
 
-pub kern-is : (t : List ℕ) → G.kern .read t ≡ mapped kern-said (choose I.kerns t)
+kern-is : (t : List ℕ) → G.kern .read t ≡ mapped kern-said (choose I.kerns t)
 kern-is t = choose-label kern-said I.kerns t
 
-pub core-is : (t : List ℕ) → G.core .read t ≡ mapped core-said (I.core t)
+core-is : (t : List ℕ) → G.core .read t ≡ mapped core-said (I.core t)
 unfolding I.core
 core-is t = ap (after (λ (k : G.Kern). G.kern-tail k .read)) (kern-is t) ∙ join kern-said (λ (k : G.Kern). G.kern-tail k .read) I.core-of core-said (λ k r. by k r (ltb k 22)) (choose I.kerns t)
   where
@@ -98,7 +98,7 @@ pub record Rest~ (e : Ended ℤ Bool) (c : I.Rested) : Type 0 where
   pub strides : pushes nothing (e .items) ≡ c .strides
   pub mark : e .last ≡ c .marked
 
-pub listed-is : (t : List ℕ) → Same Rest~ (B.strides-list .read t) (I.listed t)
+listed-is : (t : List ℕ) → Same Rest~ (B.strides-list .read t) (I.listed t)
 unfolding I.listed
 listed-is t = subst (λ (p : Answer (Ended ℤ Bool)). Same Rest~ p (I.listed t)) (sym (large-list B.brackets tt tt refl t))
     (ended (B.brackets .read) (choose I.brackets) (λ x. label marked (B.brackets .read x) (choose I.brackets x) (choose-label marked I.brackets x)) I.rest-of
@@ -111,12 +111,12 @@ turn-of false m = B.list
 abbrev turn-said : ℕ → B.Turn
 turn-said k = turn-of (ltb k 2) (marked k)
 
-pub pushes-len : (l : Row) (zs : List ℤ) → pushes l zs .len ≡ l .len + length zs
+pushes-len : (l : Row) (zs : List ℤ) → pushes l zs .len ≡ l .len + length zs
 pushes-len l [] = omega arith
 pushes-len l (z ∷ zs) = let h = pushes-len (pushed l z) zs in omega arith
 
 -- at rank 0 the strides may be absent
-pub rest-is : (zs : List ℤ) (t : List ℕ) → Same Rest~ (B.after zs .read t) (I.rest (pushes nothing zs .len) t)
+rest-is : (zs : List ℤ) (t : List ℕ) → Same Rest~ (B.after zs .read t) (I.rest (pushes nothing zs .len) t)
 unfolding I.rest
 rest-is [] t = along (λ u. B.turnQ u .read) I.begun (label turn-said (pick t (listed (ends (bytes ">")) B.close two ++ listed B.intro (λ s. B.list) two)) (choose I.opened t) (choose-label turn-said I.opened t))
     (λ u k r h. subst (λ (u : B.Turn). Same Rest~ (B.turnQ u .read r) (I.begun k r)) (sym h) (by k r (ltb k 2)))

@@ -55,7 +55,7 @@ led-is p k e t = along (λ (u : Unit {0}) x. mapped (G.sight p) (B.tensor-inside
     (label (λ (n : ℕ). tt) (G.lead .read t) (choose C.leads t) (choose-label (λ (n : ℕ). tt) C.leads t))
     (λ u n r h. convey (G.sight p) (C.seen true k) (tensor-is r) (λ a b q. record { padding = e; tens = q }))
 
-pub sight-is : (k : ℕ) (t : List ℕ) → Same Sight~ (G.tens-part (mid-said k) .read t) (C.sight k t)
+sight-is : (k : ℕ) (t : List ℕ) → Same Sight~ (G.tens-part (mid-said k) .read t) (C.sight k t)
 unfolding C.sight
 sight-is k t = by (ltb k 2)
   where
@@ -98,10 +98,10 @@ walk-mid : (t : List ℕ) → Same (Named mid-said) (G.mid 93 tt .read t) (C.mid
 unfolding C.mid
 walk-mid t = label mid-said (G.mid 93 tt .read t) (choose C.walk-mids t) (choose-label mid-said C.walk-mids t)
 
-pub tile-scene-is : (t : List ℕ) → Same Scene~ (N.tile-scene .read t) (scene true t)
+tile-scene-is : (t : List ℕ) → Same Scene~ (N.tile-scene .read t) (scene true t)
 tile-scene-is t = subst (λ (p : Answer (Ended ℤ G.Mid)). Same Scene~ (after stage p) (scene true t)) (sym (entry-list (G.mid 41 tt) tt tt refl tt t)) (scene-by true (G.mid 41 tt .read) tile-mid t)
 
-pub walk-scene-is : (t : List ℕ) → Same Scene~ (N.walk-scene .read t) (scene false t)
+walk-scene-is : (t : List ℕ) → Same Scene~ (N.walk-scene .read t) (scene false t)
 walk-scene-is t = subst (λ (p : Answer (Ended ℤ G.Mid)). Same Scene~ (after stage p) (scene false t)) (sym (small-list (G.mid 93 tt) tt tt refl t)) (scene-by false (G.mid 93 tt .read) walk-mid t)
 
 -- ── the ends ──
@@ -113,12 +113,12 @@ map-list-is t = subst (λ (p : Answer (Ended ℤ (Unit {0}))). Same Map~ p (afte
     (ended (N.map-end .read) (choose (bytes "]>|")) (λ x. label (λ (k : ℕ). tt) (N.map-end .read x) (choose (bytes "]>|") x) (choose-label (λ (k : ℕ). tt) (bytes "]>|") x)) (λ l k. l)
     (λ zs b k h. refl) (list32 false t))
 
-pub map-part-is : (t : List ℕ) → Same Map~ (N.map-part .read t) (C.map-part t)
+map-part-is : (t : List ℕ) → Same Map~ (N.map-part .read t) (C.map-part t)
 unfolding C.map-part
 map-part-is t = along (λ (s : Bool). N.map-list .read) C.map-from
     (label marked (pick t (listed (N.after-comma (bytes "dim_map=[")) (λ (s : Bool). s) two)) (choose C.maps t) (choose-label marked C.maps t)) (λ s k r h. map-list-is r)
 
-pub sparse-part-is : (t : List ℕ) → Same _≡_ (N.sparse-part .read t) (C.sparse-part t)
+sparse-part-is : (t : List ℕ) → Same _≡_ (N.sparse-part .read t) (C.sparse-part t)
 unfolding C.sparse-part
 sparse-part-is t = along (λ (s : Bool). N.sparse-last .read) C.sparse-from
     (label marked (pick t (listed (N.after-comma (bytes "sparse_dim=")) (λ (s : Bool). s) two)) (choose C.sparses t) (choose-label marked C.sparses t)) (λ s k r h. last r)

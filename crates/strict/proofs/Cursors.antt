@@ -28,14 +28,14 @@ module _ {A : Type 0} (s : List ℕ) where
   pub next-off : (g : List ℕ → Answer A) (a : A) (e : ℕ) → length s < e → next s g e ≡ valued s a e
   next-off g a e h = rw (lt-leb e (length s) h)
 
-  pub valued-stuck : (a : A) (p : ℕ) → valued s a (stuck-at s p) ≡ stuck (drop p s)
+  valued-stuck : (a : A) (p : ℕ) → valued s a (stuck-at s p) ≡ stuck (drop p s)
   valued-stuck a p = valued-off a (stuck-at s p) (omega arith) ∙ ap (λ (n : ℕ). stuck (drop n s)) (less s p)
 
 module _ (s : List ℕ) where
   pub place-past : (e : ℕ) → e ≤ length s → place s e ≡ e
   place-past e h = rw (le-leb e (length s) h)
 
-  pub place-stuck : (p : ℕ) → place s (stuck-at s p) ≡ p
+  place-stuck : (p : ℕ) → place s (stuck-at s p) ≡ p
   place-stuck p = let h : length s < stuck-at s p = omega arith in rw (lt-leb (stuck-at s p) (length s) h) (omega arith)
 
 -- ── what is told ──

@@ -6,7 +6,6 @@ use mathlib.Core.Path.{_≡_, refl, subst, sym, ap, _∙_}
 use lib.Dec.{T, eqb, eqb→eq}
 use lib.IntN.{ℤ}
 use Rattle.lexis.specs.Text.{bytes}
-use Rattle.meaning.specs.Decimal.{dim}
 use Rattle.grammar.specs.Piece.{Answer, got, stuck, apart, Piece}
 use Rattle.grammar.specs.Join.{mapped, after, fork}
 use Rattle.grammar.specs.Until.{Ended, first, until-read}

@@ -20,7 +20,7 @@ use Rattle.strict.specs.Words.{choose}
 use Rattle.strict.proofs.Rows.{turn, less}
 use Rattle.strict.proofs.Picking.{choose-label}
 
-pub pick-done : {A : Type 0} (a : A) (t : List ℕ) → pick t (([] ↝ a) ∷ []) ≡ got a t
+pick-done : {A : Type 0} (a : A) (t : List ℕ) → pick t (([] ↝ a) ∷ []) ≡ got a t
 pick-done a [] = refl
 pick-done a (c ∷ t) = refl
 
@@ -34,7 +34,7 @@ mapped-minus (stuck r) = refl
 
 -- ── a numeral ──
 module _ (p q : ℕ) (wide : T (lib.Dec.ltb 9 p)) (wide′ : T (lib.Dec.ltb 9 (suc q))) where
-  pub number-is : (t : List ℕ) → N.number p q wide wide′ .read t ≡ C.numeral p (suc q) t
+  number-is : (t : List ℕ) → N.number p q wide wide′ .read t ≡ C.numeral p (suc q) t
   number-is [] = refl
   number-is (c ∷ t) = by (eqb c 45) (eqb→eq c 45)
     where

@@ -2,7 +2,7 @@
 use Prim.Native.Nat.{ℕ, zero, suc, _+_, _-_, _≤_, _<_}
 use native.Mathlib.Omega.{arith}
 use mathlib.Core.Bool.{Bool, true, false, cond, _&&_}
-use mathlib.Core.List.{List, [], _∷_, _++_, append-assoc}
+use mathlib.Core.List.{List, [], _∷_, _++_, append-assoc, append-nil}
 use mathlib.Core.Option.{none, some}
 use mathlib.Core.Path.{_≡_, refl, sym, ap, subst, _∙_}
 use borrow.Author.Tests.{le-leb, lt-leb, leb-true}
@@ -29,7 +29,7 @@ use Rattle.strict.specs.Cursor.{valued}
 use Rattle.strict.specs.Lists.{Row, nothing, pushes}
 use Rattle.strict.specs.Whole as W
 use Rattle.strict.specs.Plain as P
-use Rattle.strict.proofs.Numbers.{view}
+use Rattle.lexis.proofs.Lists.{view}
 
 -- ── the code's tables ──
 
@@ -52,18 +52,14 @@ row zs = record { values = padded 8 zs; len = length zs }
 one-more : (ys : List ℤ) (z : ℤ) → length ys + 1 ≡ length (ys ++ z ∷ [])
 one-more ys z = sym (length-append ys (z ∷ []))
 
-end-of : (ys : List ℤ) → ys ≡ ys ++ []
-end-of [] = refl
-end-of (y ∷ ys) = ap (λ (l : List ℤ). y ∷ l) (end-of ys)
-
 -- entries more, also over the capacity
 rows : (ys zs : List ℤ) → pushes (row ys) zs ≡ row (ys ++ zs)
-rows ys [] = ap row (end-of ys)
+rows ys [] = ap row (sym (append-nil ys))
 rows ys (z ∷ zs) =
     ap (λ (l : Row). pushes l zs) (λ i. record { values = slot 8 ys z i; len = one-more ys z i })
     ∙ rows (ys ++ z ∷ []) zs ∙ ap row (append-assoc ys (z ∷ []) zs)
 
-pub row-is : (zs : List ℤ) → pushes nothing zs ≡ row zs
+row-is : (zs : List ℤ) → pushes nothing zs ≡ row zs
 row-is zs = rows [] zs
 
 -- ── what the grammar's type is laid out and judged as ──

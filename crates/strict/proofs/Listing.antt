@@ -1,5 +1,5 @@
 -- A list of items at a place of a text: it ends there, goes on with an item, or is stuck in one. For any items and any separator.
-use Prim.Native.Nat.{ℕ, _+_, _-_, _≤_, _<_}
+use Prim.Native.Nat.{ℕ, _+_, _≤_, _<_}
 use native.Mathlib.Omega.{arith}
 use mathlib.Core.Bool.{Bool, true, false}
 use mathlib.Core.List.{List, [], _∷_}
@@ -13,18 +13,18 @@ use Rattle.grammar.specs.Piece.{Answer, got, stuck, member}
 use Rattle.grammar.specs.Join.{mapped}
 use Rattle.strict.specs.Rows.{more}
 use Rattle.strict.specs.Lists.{Row, row, nothing, pushed, pushes}
-use Rattle.strict.specs.Cursor.{Told, Spaced, valued, place, gap}
+use Rattle.strict.specs.Cursor.{Told, Spaced, place, gap}
 use Rattle.strict.specs.Words.{next}
 use Rattle.strict.proofs.Cursors.{valued-past, valued-off, place-past, past, begin}
-use Rattle.strict.proofs.Numbers.{view}
+use Rattle.lexis.proofs.Lists.{view}
 use Rattle.strict.proofs.Items.{goes, Parts}
 
-pub pour : (l : Row) (z : ℤ) (p : Answer (List ℤ)) → mapped (pushes l) (mapped (more z) p) ≡ mapped (pushes (pushed l z)) p
+pour : (l : Row) (z : ℤ) (p : Answer (List ℤ)) → mapped (pushes l) (mapped (more z) p) ≡ mapped (pushes (pushed l z)) p
 pour l z (got zs x) = refl
 pour l z (stuck x) = refl
 
 -- an entry stored
-pub stored : {x : List ℤ} (out : List ℤ) (n : ℕ) {v u : ℤ} → x ≡ set out n v → v ≡ u → row x (n + 1) ≡ pushed (row out n) u
+stored : {x : List ℤ} (out : List ℤ) (n : ℕ) {v u : ℤ} → x ≡ set out n v → v ≡ u → row x (n + 1) ≡ pushed (row out n) u
 stored out n e k = ap (λ (z : List ℤ). row z (n + 1)) (e ∙ ap (set out n) k)
 
 -- read up to i: the list from the start is what was read, then the list from here

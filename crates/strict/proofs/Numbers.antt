@@ -1,18 +1,16 @@
 -- What the readers of digits and numerals do at a place of a text: the text is opened there, and the test settled.
 use Prim.Native.Nat.{ℕ, _+_, _-_, _*_, _/_, _^_, _≤_, _<_}
 use native.Mathlib.Omega.{arith}
-use native.Mathlib.Numerals.{add-one}
 use native.Mathlib.Nat.{div-add-mod, mod-lt, zero-lt-suc}
 use mathlib.Core.Bool.{Bool, true, false, cond, _&&_, _||_}
 use mathlib.Core.List.{List, _∷_}
 use mathlib.Core.Path.{_≡_, refl, sym, ap, _∙_}
 use lib.Dec.{T, eqb, leb, ltb, leb→le, le→leb, ltb→lt, lt→ltb, not-T}
 use lib.ListN.{drop, length, getD, drop-of-length-le}
-use lib.Seq.{drop-cons}
+use lib.IntN.{pos, negsuc}
 use borrow.Author.Tests.{ne-eqb}
-use Rattle.grammar.specs.Tests.{and-left, and-right}
-use Rattle.grammar.specs.Tests.{and-in}
-use Rattle.grammar.specs.Tests.{is-true, T-not-eq}
+use Rattle.lexis.proofs.Lists.{view}
+use Rattle.grammar.specs.Tests.{and-left, and-right, and-in, is-true, T-not-eq}
 use Rattle.numerals.specs.Numeral.{digit}
 use Rattle.grammar.specs.Piece.{Answer, got, stuck, member}
 use Rattle.grammar.specs.Number as N
@@ -20,11 +18,6 @@ use Rattle.grammar.specs.Number.{in-nine, nine-in}
 use Rattle.grammar.specs.Several.{figs?}
 use Rattle.strict.specs.Cursor as C
 use Rattle.grammar.specs.Join.{mapped}
-use lib.IntN.{pos}
-use lib.IntN.{negsuc}
-
-pub view : (s : List ℕ) (i : ℕ) → i < length s → drop i s ≡ getD s i 0 ∷ drop (i + 1) s
-view s i h = rw (add-one, drop-cons s i 0)
 
 -- ── digits ──
 module _ (L n : ℕ) where
@@ -34,7 +27,7 @@ module _ (L n : ℕ) where
   pub grow-end : (s : List ℕ) (i : ℕ) → length s ≤ i → N.grow L n (drop i s) ≡ got n (drop i s)
   grow-end s i h = rw (drop-of-length-le s h)
 
-  pub grow-off : (s : List ℕ) (i : ℕ) → i < length s → (T (digit (getD s i 0) && ltb (n * 10 + (getD s i 0 - 48)) L) → ⊥) → N.grow L n (drop i s) ≡ got n (drop i s)
+  grow-off : (s : List ℕ) (i : ℕ) → i < length s → (T (digit (getD s i 0) && ltb (n * 10 + (getD s i 0 - 48)) L) → ⊥) → N.grow L n (drop i s) ≡ got n (drop i s)
   grow-off s i h k = rw (view s i h) (ap (goes (getD s i 0) (drop (i + 1) s)) (T-not-eq (digit (getD s i 0) && ltb (n * 10 + (getD s i 0 - 48)) L) (not-T (digit (getD s i 0) && ltb (n * 10 + (getD s i 0 - 48)) L) k)))
 
   pub grow-on : (s : List ℕ) (i : ℕ) → i < length s → 48 ≤ getD s i 0 → getD s i 0 ≤ 57 → n * 10 + (getD s i 0 - 48) < L → N.grow L n (drop i s) ≡ N.grow L (n * 10 + (getD s i 0 - 48)) (drop (i + 1) s)

@@ -43,7 +43,7 @@ module _ {A B : Type 0} (f : A → B) where
   settle-label none r = refl
   settle-label (some a) r = refl
 
-  pub pick-label : (t : List ℕ) (es : List (Entry A)) → pick t (relabel f es) ≡ mapped f (pick t es)
+  pick-label : (t : List ℕ) (es : List (Entry A)) → pick t (relabel f es) ≡ mapped f (pick t es)
   pick-label [] es = ap (λ (z : Option B). settle z []) (done-label es) ∙ settle-label (done es) []
   pick-label (c ∷ t) es = ap step (advance-label c es) ∙ by (advance c es) (λ e fs. pick-label t (e ∷ fs))
     where

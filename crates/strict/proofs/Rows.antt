@@ -7,23 +7,16 @@ use mathlib.Core.List.{List, [], _∷_, _++_}
 use mathlib.Core.Path.{_≡_, refl, subst, sym, ap, _∙_}
 use lib.Dec.{T}
 use lib.IntN.{ℤ}
-use lib.ListN.{length, length-append}
-use Rattle.grammar.specs.Piece.{member, apart, heads, Answer, got, stuck, Full, Good, Piece}
+use lib.ListN.{length}
+use Rattle.grammar.specs.Piece.{member, apart, Answer, got, stuck, Good, Piece}
 use Rattle.grammar.specs.Join.{mapped, after}
-use Rattle.grammar.specs.Until.{Ended, first, ended, loop, until-read}
+use Rattle.grammar.specs.Until.{Ended, first, ended, shorter, loop, until-read}
 use Rattle.strict.specs.Rows.{more, run, rows}
 
 module _ {F : List ℕ} {E : ℤ → List ℕ} (P : Piece false F ℤ E) where
-  shorter : (t r : List ℕ) (a : ℤ) → Full (P .In) (P .read) t a r → length r < length t
-  shorter t r a f = by (f .text) (P .leads a (f .text) (f .is)) (f .split)
-    where
-      by : (u : List ℕ) → T (heads false F u) → u ++ r ≡ t → length r < length t
-      by [] h e = absurd h
-      by (c ∷ u) h e = let l = ap length (sym e) in let m = length-append u r in omega arith
-
   -- an item is not empty
   pub less : (t r : List ℕ) (a : ℤ) → P .read t ≡ got a r → length r < length t
-  less t r a e = shorter t r a (subst (Good (P .In) (P .read) t) e (P .good t))
+  less t r a e = shorter P t r a (subst (Good (P .In) (P .read) t) e (P .good t))
 
   abbrev going : ℕ → Answer ℤ → Answer (List ℤ)
   going k p = after (λ z r. mapped (more z) (run P k r)) p
@@ -32,7 +25,7 @@ module _ {F : List ℕ} {E : ℤ → List ℕ} (P : Piece false F ℤ E) where
   onto p = after (λ z r. mapped (more z) (rows P r)) p
 
   step : (k m : ℕ) (t : List ℕ) (p : Answer ℤ) → Good (P .In) (P .read) t p → ((r : List ℕ) → length r < length t → run P k r ≡ run P m r) → going k p ≡ going m p
-  step k m t (got a r) g h = ap (mapped (more a)) (h r (shorter t r a g))
+  step k m t (got a r) g h = ap (mapped (more a)) (h r (shorter P t r a g))
   step k m t (stuck r) g h = refl
 
   enough : (k m : ℕ) (t : List ℕ) → length t < k → length t < m → run P k t ≡ run P m t
@@ -43,7 +36,7 @@ module _ {F : List ℕ} {E : ℤ → List ℕ} (P : Piece false F ℤ E) where
       (step k m (c ∷ t) (P .read (c ∷ t)) (P .good (c ∷ t)) (λ r q. enough k m r (omega arith) (omega arith)))
 
   last-step : (k : ℕ) (t : List ℕ) (p : Answer ℤ) → Good (P .In) (P .read) t p → length t ≤ k → going k p ≡ onto p
-  last-step k t (got a r) g h = let q = shorter t r a g in ap (mapped (more a)) (enough k (suc (length r)) r (omega arith) (omega arith))
+  last-step k t (got a r) g h = let q = shorter P t r a g in ap (mapped (more a)) (enough k (suc (length r)) r (omega arith) (omega arith))
   last-step k t (stuck r) g h = refl
 
   -- the equation

@@ -15,7 +15,7 @@ use Rattle.grammar.specs.Join.{after}
 use Rattle.strict.specs.Cursor.{Told, place, stuck-at}
 use Rattle.strict.specs.Words.{next, among, choose, entries, advances, both, differ, ended}
 use Rattle.strict.specs.declared.words.Picked.{Picked}
-use Rattle.strict.proofs.Numbers.{view}
+use Rattle.lexis.proofs.Lists.{view}
 use Rattle.strict.proofs.Cursors as C
 use Rattle.strict.proofs.Chain as H
 
@@ -27,7 +27,7 @@ byte (c ∷ s) zero = refl
 byte (c ∷ s) (suc n) = byte s n
 
 -- a byte that is not 0 stands within the text
-pub ahead : (s : List ℕ) (at c : ℕ) → getD s at 0 ≡ c → T (ltb 0 c) → at < length s
+ahead : (s : List ℕ) (at c : ℕ) → getD s at 0 ≡ c → T (ltb 0 c) → at < length s
 ahead [] zero c e h = absurd (subst (λ (z : ℕ). T (ltb 0 z)) (sym e) h)
 ahead [] (suc n) c e h = absurd (subst (λ (z : ℕ). T (ltb 0 z)) (sym e) h)
 ahead (x ∷ s) zero c e h = omega arith
@@ -198,7 +198,7 @@ one-off x c k u t n = halted x c k u t n
 abbrev rest : List ℕ → List (Entry ℕ) → ℕ → List ℕ → Answer ℕ
 rest u es k r = among (advances u es) r
 
-pub along : (u : List ℕ) (es : List (Entry ℕ)) → T (forced u es) → (t : List ℕ) → among es t ≡ after (rest u es) (among ((u ↝ 0) ∷ []) t)
+along : (u : List ℕ) (es : List (Entry ℕ)) → T (forced u es) → (t : List ℕ) → among es t ≡ after (rest u es) (among ((u ↝ 0) ∷ []) t)
 along [] es h t = sym (ap (after (rest [] es)) (alone 0 t))
 along (x ∷ u) es h [] = ends es (begin-done (x ∷ []) es (and-left (begin (x ∷ []) es) (left (advance x es)) (and-left (starts x es) (forced u (advance x es)) h)))
     ∙ sym (ap (after (rest (x ∷ u) es)) (ends ((x ∷ u ↝ 0) ∷ []) refl))

@@ -1,4 +1,4 @@
--- Each public function's contract leaves one answer: two answers that meet the generated reading of it, for the same text, are the same.
+-- The public call's contract leaves one answer: two answers that meet the generated reading of it, for the same text, are the same.
 use denote.Ref.{now}
 use Rattle.lexis.proofs.Unique.{One}
 use Rattle.grammar.proofs.Answer.{one-answer}

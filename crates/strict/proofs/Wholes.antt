@@ -21,14 +21,14 @@ use Rattle.strict.proofs.Cursors.{hand}
 use Rattle.strict.proofs.Chain.{chain, last}
 use Rattle.strict.proofs.Insides.{lt-true, lt-false, next-yes, next-no}
 
-module _ {A : Type 0} (s : List ℕ) (e : ℕ) (k n : ℕ) (f g : List ℕ → Answer A) where
-  pub below : k < n → next s (λ r. cond (ltb k n) (f r) (g r)) e ≡ next s f e
+module _ (s : List ℕ) (e : ℕ) (k n : ℕ) (f g : List ℕ → Answer M.Entire) where
+  below : k < n → next s (λ r. cond (ltb k n) (f r) (g r)) e ≡ next s f e
   below h = next-yes s (ltb k n) f g e (lt-true k n h)
 
-  pub above : n ≤ k → next s (λ r. cond (ltb k n) (f r) (g r)) e ≡ next s g e
+  above : n ≤ k → next s (λ r. cond (ltb k n) (f r) (g r)) e ≡ next s g e
   above h = next-no s (ltb k n) f g e (lt-false k n h)
 
-pub whole-is : (s : List ℕ) → M.whole s ≡ after M.from-head (choose M.heads s)
+whole-is : (s : List ℕ) → M.whole s ≡ after M.from-head (choose M.heads s)
 unfolding M.whole
 whole-is s = refl
 

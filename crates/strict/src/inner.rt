@@ -29,10 +29,10 @@ pub(crate) struct Tile {
     pub(crate) core: Core,
 }
 
-pub(crate) struct Rest {
-    pub(crate) len: usize,
-    pub(crate) marked: bool,
-    pub(crate) end: usize,
+struct Rest {
+    len: usize,
+    marked: bool,
+    end: usize,
 }
 
 // The rank, the name, and the number of strides.

@@ -17,7 +17,7 @@ ghost use Rattle.strict.specs.Whole.{entire, whole};
 ghost use Rattle.strict.specs.Plain.{scalar, padding, said, record-of, judged};
 
 // The scalar of each name, by its number.
-pub(crate) fn scalar_of(k: usize) -> Scalar
+fn scalar_of(k: usize) -> Scalar
     ensures { λ r. ⌜ r ≡ scalar k ⌝ }
 {
     let scalars = [
@@ -52,7 +52,7 @@ pub(crate) fn scalar_of(k: usize) -> Scalar
 }
 
 // The padding of each word, by its number, where one is given.
-pub(crate) fn padding_of(given: bool, k: usize) -> Padding
+fn padding_of(given: bool, k: usize) -> Padding
     ensures { λ r. ⌜ r ≡ padding given k ⌝ }
 {
     if !given {

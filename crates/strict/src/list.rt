@@ -25,7 +25,7 @@ pub(crate) struct Listed {
 }
 
 // One entry more; past the capacity it is only counted.
-pub(crate) fn put32(out: &mut [i32], n: usize, v: i32)
+fn put32(out: &mut [i32], n: usize, v: i32)
     ensures { λ r. ⌜ now (out .exit) ≡ set (now (out .entry)) n v ⌝ }
 {
     if n < out.len() {
@@ -33,7 +33,7 @@ pub(crate) fn put32(out: &mut [i32], n: usize, v: i32)
     }
 }
 
-pub(crate) fn put64(out: &mut [i64], n: usize, v: i64)
+fn put64(out: &mut [i64], n: usize, v: i64)
     ensures { λ r. ⌜ now (out .exit) ≡ set (now (out .entry)) n v ⌝ }
 {
     if n < out.len() {

@@ -148,7 +148,7 @@ pub(crate) fn number32(s: &[u8], at: usize) -> Num32
 }
 
 // A numeral of 64 bits, but not the smallest.
-pub(crate) fn number64(s: &[u8], at: usize) -> Num64
+fn number64(s: &[u8], at: usize) -> Num64
     requires { ⌜ at ≤ length (now s) ⌝ }
     ensures { λ r. ⌜ Told (now (s .entry)) at (numeral (2 ^ 63) (2 ^ 63) (drop at (now (s .entry)))) (r .value) (r .end) ⌝ }
 {

@@ -66,7 +66,7 @@ fn made(
 }
 
 // The kind of a view, by its first word.
-pub(crate) fn view_kind(k: usize) -> Kind
+fn view_kind(k: usize) -> Kind
     ensures { λ r. ⌜ r ≡ kind-by (ltb k 32) (ltb k 34) ⌝ }
 {
     if k < 32 {

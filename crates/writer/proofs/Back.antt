@@ -32,10 +32,11 @@ use Rattle.meaning.specs.Written as W
 use Rattle.meaning.specs.Written.{first, pads-of, dimension-of, listed, form-as, form, written, tensor-of, view-of, tensor-in, view-in, shape-in, strides-in}
 use Rattle.meaning.specs.Written.{tile-in, map-in, traversal-in}
 use Rattle.writer.proofs.Short.{Ranged}
-use Rattle.writer.proofs.Opened.{left, right, zero-is, Kept, Opened, opened}
+use Rattle.grammar.specs.Tests.{and-left, and-right, and-in}
+use Rattle.writer.proofs.Opened.{zero-is, Kept, Opened, opened}
 use Rattle.writer.proofs.Answers.{Arrays}
 use Rattle.meaning.proofs.Whens.{When, when-each, when-bind, when-unless}
-use Rattle.writer.proofs.Sound.{and, entries-are, plain-are, Fine, form-fine}
+use Rattle.writer.proofs.Sound.{entries-are, plain-are, Fine, form-fine}
 
 -- ── a record's own meaning ──
 
@@ -200,7 +201,7 @@ module _ (cap : ℕ) (r : Record) where
 
 blank-back : (l : List ℤ) → T (all-zero l) → padded (length l) [] ≡ l
 blank-back [] h = refl
-blank-back (z ∷ l) h = λ i. sym (zero-is z (left (is-zero z) (all-zero l) h)) i ∷ blank-back l (right (is-zero z) (all-zero l) h) i
+blank-back (z ∷ l) h = λ i. sym (zero-is z (and-left (is-zero z) (all-zero l) h)) i ∷ blank-back l (and-right (is-zero z) (all-zero l) h) i
 
 array-back : (n : ℕ) (l : List ℤ) → T (all-zero (drop n l)) → padded (length l) (take n l) ≡ l
 array-back zero l h = blank-back l h
@@ -250,20 +251,12 @@ module _ (cap : ℕ) (r : Record) (a : Arrays cap r) (n : normal cap r ≡ true)
       let a₂ = a₁ && within-cap (strides-in r) in
       let a₃ = a₂ && within-cap (tile-in r) in
       let a₄ = a₃ && within-cap (map-in r) in
-      let h₂ = and a₁ (within-cap (strides-in r)) (list-fits (o .shape) (a .shape)) (list-fits (o .strides) (a .strides)) in
-      let h₃ = and a₂ (within-cap (tile-in r)) h₂ (list-fits (o .tile) (a .tile)) in
-      let h₄ = and a₃ (within-cap (map-in r)) h₃ (list-fits (o .map) (a .map)) in
-      and a₄ (within-cap (traversal-in r)) h₄ (list-fits (o .traversal) (a .traversal))
+      let h₂ = and-in a₁ (within-cap (strides-in r)) (list-fits (o .shape) (a .shape)) (list-fits (o .strides) (a .strides)) in
+      let h₃ = and-in a₂ (within-cap (tile-in r)) h₂ (list-fits (o .tile) (a .tile)) in
+      let h₄ = and-in a₃ (within-cap (map-in r)) h₃ (list-fits (o .map) (a .map)) in
+      and-in a₄ (within-cap (traversal-in r)) h₄ (list-fits (o .traversal) (a .traversal))
 
 -- ── a written text, read strictly ──
-
--- the form's meaning, laid in arrays, is the record
-pub mean-back : (cap : ℕ) (r : Record) → Arrays cap r → normal cap r ≡ true → When (λ f. flat-any cap (mean f) ≡ r) (form r)
-mean-back cap r a n = by (form r) (form-says cap r n)
-  where
-    by : (o : Option Form) → When (λ f. mean f ≡ own r) o → When (λ f. flat-any cap (mean f) ≡ r) o
-    by none h = tt
-    by (some f) h = ap (flat-any cap) h ∙ flat-own cap r a n
 
 -- a written text is strict, and its meaning is the record's own
 pub strict : (cap : ℕ) (r : Record) → Ranged r → normal cap r ≡ true → When (λ t. Strict t (own r)) (written r)

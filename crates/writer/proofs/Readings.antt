@@ -20,7 +20,7 @@ use Rattle.meaning.specs.declared.Kind.the-variants as K
 use Rattle.meaning.specs.declared.Record.{Record}
 use Rattle.meaning.specs.declared.Refusal.{Refusal}
 use Rattle.meaning.specs.declared.Refusal.the-variants.{TooLong, HighByte, NoType, TooMany}
-use Rattle.meaning.specs.Parts.{each, last, front, less-repeats, between, close}
+use Rattle.meaning.specs.Parts.{last, front, less-repeats, between, close}
 use Rattle.meaning.specs.Found.{Entry, Clause, values, padded, Found, flat, within, made, unused, plain, token, with-attribute}
 use Rattle.meaning.specs.Tile as M
 use Rattle.meaning.specs.Tile.{Tensor}
@@ -31,7 +31,7 @@ use Rattle.meaning.specs.Written.{written}
 use Rattle.writer.specs.Flat.{some-in, strides-fine, shown-as, shown, text}
 use Rattle.writer.proofs.Same as Same
 use Rattle.writer.proofs.Same.{Whole}
-use Rattle.writer.proofs.Sound.{and}
+use Rattle.grammar.specs.Tests.{and-in, or-left, is-true}
 use Rattle.meaning.proofs.Whens.{When, when-each, all-each}
 use Rattle.meaning.proofs.Everywhere.{Read, ordinary-all}
 
@@ -61,10 +61,6 @@ lists-shown K.Partition r = some-in (r .«tile_len») && strides-fine r && some-
 lists-shown K.GatherScatter r = some-in (r .«tile_len») && strides-fine r
 lists-shown K.Strided r = some-in (r .«tile_len») && strides-fine r && some-in (r .«traversal_len») && some-in (r .«map_len»)
 lists-shown K.Token r = true
-
-is-true : (b : Bool) → T b → b ≡ true
-is-true true h = refl
-is-true false h = absurd h
 
 tile-shown : (p a : Bool) → p || not a ≡ not (not p && a)
 tile-shown true a = refl
@@ -126,10 +122,6 @@ Tensor-rich v = T (some-in (length (values (v .strides))) || eqb (length (values
 record View-rich (v : View) : Type 0 where
   pub tile : 0 < length (v .tile)
   pub tensor : Tensor-rich (v .tensor)
-
-or-left : (a b : Bool) → T a → T (a || b)
-or-left true b h = tt
-or-left false b h = absurd h
 
 parts-filled : (s : Text) → 0 < length (M.stride-parts s)
 unfolding M.stride-parts
@@ -201,14 +193,14 @@ module _ (v : View) (h : View-rich v) where
   strides-in = some-in (length (values (v .tensor .strides))) || eqb (length (values (v .tensor .shape))) 0
 
   view-counts : T (tile-in && strides-in)
-  view-counts = and tile-in strides-in tile-counts (h .tensor)
+  view-counts = and-in tile-in strides-in tile-counts (h .tensor)
 
   abbrev some-of : Clause → Bool
   some-of c = some-in (length (values c))
 
   partition-rich : (m : Clause) → Full m → Rich (W.view-of K.Partition m unused unused v)
   unfolding flat made W.view-of
-  partition-rich m k cap = and (tile-in && strides-in) (some-of m) view-counts (counts (length (values m)) k)
+  partition-rich m k cap = and-in (tile-in && strides-in) (some-of m) view-counts (counts (length (values m)) k)
 
   gather-rich : (c : Clause) → Rich (W.view-of K.GatherScatter unused unused c v)
   unfolding flat made W.view-of
@@ -217,7 +209,7 @@ module _ (v : View) (h : View-rich v) where
   strided-rich : (m t : Clause) → Full m → Full t → Rich (W.view-of K.Strided m t unused v)
   unfolding flat made W.view-of
   strided-rich m t k j cap =
-      and (tile-in && strides-in && some-of t) (some-of m) (and (tile-in && strides-in) (some-of t) view-counts (counts (length (values t)) j)) (counts (length (values m)) k)
+      and-in (tile-in && strides-in && some-of t) (some-of m) (and-in (tile-in && strides-in) (some-of t) view-counts (counts (length (values t)) j)) (counts (length (values m)) k)
 
 plain-rich : (e : Scalar) → Rich (plain K.Scalar e)
 unfolding flat plain made

@@ -6,7 +6,7 @@ use native.Mathlib.Omega.{arith}
 use mathlib.Core.List.{[], _∷_, _++_}
 use mathlib.Core.Path.{_≡_, refl, subst, _∙_}
 use lib.ListN.{length, length-append, drop, set, length-set, getD, drop-of-length-le}
-use lib.Seq.{sets, length-sets, sets-eq, drop-cons}
+use lib.Seq.{sets, sets-eq, drop-cons}
 use Rattle.lexis.specs.Text.{Text}
 use Rattle.writer.specs.Room.{overlay, Put}
 
@@ -18,10 +18,6 @@ overlay-append x y s a = go x s a (a + length x) refl
     go : (x s : Text) (a b : ℕ) → b ≡ a + length x → sets (sets s a x) b y ≡ sets s a (x ++ y)
     go [] s a b e = let h : b ≡ a = omega arith in rw h
     go (v ∷ x) s a b e = go x _ (suc a) b (omega arith)
-
-pub overlay-length : (s : Text) (a : ℕ) (x : Text) → length (overlay s a x) ≡ length s
-unfolding overlay
-overlay-length s a x = length-sets s a x
 
 -- at the front of a room that is long enough: the bytes, and the rest kept
 pub overlay-front : (s x : Text) → length x ≤ length s → overlay s 0 x ≡ x ++ drop (length x) s

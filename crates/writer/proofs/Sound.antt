@@ -1,4 +1,4 @@
--- A written text is strict: where a record has a form, the form is well formed, by the ranges of its numbers.
+-- Where a record has a form, the form is well formed, by the ranges of its numbers. So what is written is strict (`Back`).
 use Prim.Native.Nat.{ℕ, zero, suc, _-_, _^_, _<_}
 use native.Mathlib.Omega.{arith}
 use mathlib.Core.Bool.{Bool, true, false, _&&_}
@@ -18,18 +18,15 @@ use Rattle.meaning.specs.declared.Kind.the-variants as K
 use Rattle.meaning.specs.declared.Record.{Record}
 use Rattle.meaning.specs.Decimal.{in32, in64, dynamic, known}
 use Rattle.meaning.specs.Strict as S
-use Rattle.meaning.specs.Strict.{Tensor, View, Commas, Next, Form, values, spell}
-use Rattle.meaning.specs.Meant.{eachOf, tensorOk, viewOk, ok, mean, Strict}
+use Rattle.meaning.specs.Strict.{Tensor, View, Commas, Next, Form, values}
+use Rattle.meaning.specs.Meant.{eachOf, tensorOk, viewOk, ok}
 use Rattle.meaning.specs.Written as W
 use Rattle.meaning.specs.Written.{dimension-of, listed, first, form-as, form, tensor-of, view-of, tensor-in, view-in, shape-in, strides-in, tile-in, map-in, traversal-in}
+use Rattle.grammar.specs.Tests.{and-in}
 use Rattle.writer.proofs.Short.{Below, Ranged}
 use Rattle.meaning.proofs.Whens.{When, when-each, when-bind, when-unless}
 
 -- ── numbers and lists ──
-
-pub and : (a b : Bool) → T a → T b → T (a && b)
-and true b p q = q
-and false b p q = p
 
 dim-fine : (z : ℤ) → mag z < 2 ^ 63 → T (in64 (dimension-of z))
 dim-fine (pos n) h = lt→ltb n (2 ^ 63) h
@@ -47,12 +44,12 @@ small-fine (negsuc n) h = lt→ltb n (2 ^ 31) h
 dims-fine : (n : ℕ) (l : List ℤ) → Below 63 l → T (eachOf in64 (map dimension-of (take n l)))
 dims-fine zero l h = tt
 dims-fine (suc n) [] h = tt
-dims-fine (suc n) (z ∷ l) h = and (in64 (dimension-of z)) (eachOf in64 (map dimension-of (take n l))) (dim-fine z (h 0)) (dims-fine n l (λ i. h (suc i)))
+dims-fine (suc n) (z ∷ l) h = and-in (in64 (dimension-of z)) (eachOf in64 (map dimension-of (take n l))) (dim-fine z (h 0)) (dims-fine n l (λ i. h (suc i)))
 
 smalls-fine : (n : ℕ) (l : List ℤ) → Below 31 l → T (eachOf in32 (take n l))
 smalls-fine zero l h = tt
 smalls-fine (suc n) [] h = tt
-smalls-fine (suc n) (z ∷ l) h = and (in32 z) (eachOf in32 (take n l)) (small-fine z (h 0)) (smalls-fine n l (λ i. h (suc i)))
+smalls-fine (suc n) (z ∷ l) h = and-in (in32 z) (eachOf in32 (take n l)) (small-fine z (h 0)) (smalls-fine n l (λ i. h (suc i)))
 
 -- the entries of a list in commas are the list
 pub entries-are : {A : Type 0} (f : ℤ → A) (zs : List ℤ) →
@@ -88,12 +85,12 @@ tensor-fine e m [] [] p q = tt
 tensor-fine e m (d ∷ ds) [] p q = tt
 tensor-fine e m [] (z ∷ zs) p q = rw (entries-are dimension-of zs) q
 tensor-fine e m (d ∷ ds) (z ∷ zs) p q =
-    rw (entries-are dimension-of zs) (and (eachOf in64 (map dimension-of (d ∷ ds))) (eachOf in64 (map dimension-of (z ∷ zs))) p q)
+    rw (entries-are dimension-of zs) (and-in (eachOf in64 (map dimension-of (d ∷ ds))) (eachOf in64 (map dimension-of (z ∷ zs))) p q)
 
 view-fine : (p : Padding) (ts : List ℤ) (o : Option Tensor) → T (eachOf in32 ts) → When Tensor-fine o → When View-fine (view-of p ts o)
 view-fine p [] o h k = tt
 view-fine p (t ∷ ts) none h k = tt
-view-fine p (t ∷ ts) (some v) h k = and (eachOf in32 (t ∷ ts)) (tensorOk (v .shape) (v .strides)) h k
+view-fine p (t ∷ ts) (some v) h k = and-in (eachOf in32 (t ∷ ts)) (tensorOk (v .shape) (v .strides)) h k
 
 tile-fine : (p m : Bool) (e : Scalar) (ds : List ℤ) → T (eachOf in64 (map dimension-of ds)) →
     When Fine (if p then some (S.tile true (map dimension-of ds) (S.pointer (record { front = true; name = first e; marked = m })))
@@ -127,14 +124,14 @@ module _ (r : Record) (g : Ranged r) where
   fine-as K.TensorView = when-each Tensor-fine Fine (S.tensor true) (λ t k. k) (tensor-in r) tensor-in-fine
   fine-as K.Partition =
       when-bind View-fine Fine _ (λ v k.
-      when-each List-fine Fine (S.partition v) (λ c h. and (viewOk v) (eachOf in32 (values c)) k h) (listed (λ z. z) (map-in r)) map-fine)
+      when-each List-fine Fine (S.partition v) (λ c h. and-in (viewOk v) (eachOf in32 (values c)) k h) (listed (λ z. z) (map-in r)) map-fine)
       (view-in r) view-in-fine
   fine-as K.GatherScatter =
-      when-each View-fine Fine _ (λ v k. and (viewOk v) (in32 (r .sparse)) k (small-fine (r .sparse) (g .sparse))) (view-in r) view-in-fine
+      when-each View-fine Fine _ (λ v k. and-in (viewOk v) (in32 (r .sparse)) k (small-fine (r .sparse) (g .sparse))) (view-in r) view-in-fine
   fine-as K.Strided =
       when-bind View-fine Fine _ (λ v k.
       when-bind List-fine Fine _ (λ c h.
-      when-each List-fine Fine _ (λ d j. and (viewOk v && eachOf in32 (values c)) (eachOf in32 (values d)) (and (viewOk v) (eachOf in32 (values c)) k h) j)
+      when-each List-fine Fine _ (λ d j. and-in (viewOk v && eachOf in32 (values c)) (eachOf in32 (values d)) (and-in (viewOk v) (eachOf in32 (values c)) k h) j)
       (listed (λ z. z) (map-in r)) map-fine)
       (listed (λ z. z) (traversal-in r)) traversal-fine)
       (view-in r) view-in-fine
@@ -143,11 +140,3 @@ module _ (r : Record) (g : Ranged r) where
   -- where there is a form, it is well formed
   pub form-fine : When Fine (form r)
   form-fine = fine-as (r .kind)
-
-  -- so that its text is strict
-  pub form-strict : When (λ f. Strict (spell f) (mean f)) (form r)
-  form-strict = by (form r) form-fine
-    where
-      by : (o : Option Form) → When Fine o → When (λ f. Strict (spell f) (mean f)) o
-      by none h = tt
-      by (some f) h = record { form = f; fine = h; text = refl; says = refl }

@@ -1,5 +1,5 @@
 -- For the private contracts: texts that lie in a table of texts, one behind the other.
-use Prim.Native.Nat.{ℕ, _+_, _≤_}
+use Prim.Native.Nat.{_+_, _≤_}
 use mathlib.Core.Path.{_≡_}
 use lib.ListN.{length, take, drop}
 use Rattle.lexis.specs.Text.{Text, bytes}

@@ -16,7 +16,7 @@ ghost use Rattle.meaning.specs.Written.{shape-in, strides-in, tile-in};
 ghost use Rattle.writer.specs.Flat.{Small, body-in, inner-in, pointer-text, element-text, shaped, strides-text, lead-text, travel-when, sparse-text, last-when};
 
 // The mark, or nothing.
-pub(crate) fn put_mark(out: &mut [u8], at: usize, attribute: bool) -> usize
+fn put_mark(out: &mut [u8], at: usize, attribute: bool) -> usize
     requires { ⌜ at + length (mark attribute) ≤ length (now out) ⌝ }
     ensures { λ r. ⌜ Put (now (out .entry)) at (mark attribute) (now (out .exit)) r ⌝ }
 {

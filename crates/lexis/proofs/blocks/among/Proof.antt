@@ -1,8 +1,8 @@
 -- `among` meets its contract: j bytes of the block have been looked at.
 use Rattle.lexis.proofs.Passing as L
 use Rattle.lexis.specs.Text.{some-of}
-use lib.Dec.{eqb, leb}
-use lib.ListN.{length, take, drop, getD}
+use lib.Dec.{eqb}
+use lib.ListN.{take, drop, getD}
 use Prim.Native.Nat.{ℕ, _+_, _-_, _≤_}
 use native.Mathlib.Omega.{arith}
 use mathlib.Core.Bool.{Bool, _||_}

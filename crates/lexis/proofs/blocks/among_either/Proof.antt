@@ -1,7 +1,7 @@
 -- `among_either` meets its contract: j bytes of the block have been looked at.
 use Rattle.lexis.proofs.Passing as L
 use Rattle.lexis.specs.Text.{either, some-of}
-use lib.ListN.{length, take, drop, getD}
+use lib.ListN.{take, drop, getD}
 use Prim.Native.Nat.{ℕ, _+_, _-_, _≤_}
 use native.Mathlib.Omega.{arith}
 use mathlib.Core.Bool.{Bool, _||_}

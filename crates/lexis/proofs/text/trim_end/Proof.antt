@@ -4,7 +4,7 @@ use borrow.Author.Tests.{not-true, not-false}
 use Rattle.lexis.proofs.Trimming as L
 use Rattle.lexis.specs.Text as T
 use lib.ListN.{length, take}
-use Prim.Native.Nat.{_≤_, _-_}
+use Prim.Native.Nat.{_≤_}
 use mathlib.Core.Path.{_≡_, sym, _∙_}
 use borrow.Author.Needs.{needs}
 use Rattle.lexis.proofs.text.trim_end.Statement.{statement}

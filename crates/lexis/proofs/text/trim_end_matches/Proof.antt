@@ -5,7 +5,7 @@ use Rattle.lexis.proofs.Trimming as L
 use Rattle.lexis.specs.Text.{less-trailing}
 use lib.Dec.{eqb}
 use lib.ListN.{length, take}
-use Prim.Native.Nat.{_≤_, _-_}
+use Prim.Native.Nat.{_≤_}
 use mathlib.Core.Path.{_≡_, sym, _∙_}
 use borrow.Author.Needs.{needs}
 use Rattle.lexis.proofs.text.trim_end_matches.Statement.{statement}

@@ -1,8 +1,9 @@
 -- `among_ink` meets its contract: j bytes of the block have been looked at.
 use Rattle.lexis.proofs.Passing as L
-use Rattle.lexis.specs.Text.{ink, some-of}
-use lib.ListN.{length, take, drop, getD}
-use Prim.Native.Nat.{ℕ, _+_, _-_, _≤_}
+use Rattle.lexis.specs.Text.{some-of}
+use Rattle.numerals.specs.Parts.{ink}
+use lib.ListN.{take, drop}
+use Prim.Native.Nat.{ℕ, _-_, _≤_}
 use native.Mathlib.Omega.{arith}
 use mathlib.Core.Bool.{_||_, not}
 use mathlib.Core.Path.{_≡_, refl, sym, ap, _∙_}

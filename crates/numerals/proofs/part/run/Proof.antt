@@ -1,11 +1,11 @@
 -- `run` meets its contract: zeros, then digits have been passed up to i, and wrote n.
-use Rattle.numerals.specs.Parts.{Running}
 use Rattle.numerals.proofs.Walking as L
+use Rattle.numerals.proofs.Walking.{Running}
 use borrow.Author.Tests.{eq-eqb, ne-eqb}
 use lib.Dec.{eqb}
 use lib.ListN.{length}
 use Prim.Native.Nat.{_-_, _^_, _<_}
-use mathlib.Core.Path.{_≡_, sym, _∙_}
+use mathlib.Core.Path.{sym, _∙_}
 use borrow.Author.Needs.{needs}
 use Rattle.numerals.proofs.part.run.Statement.{statement}
 use Rattle.numerals.proofs.part.run.Tie as tie

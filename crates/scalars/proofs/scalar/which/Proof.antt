@@ -4,7 +4,6 @@ use Rattle.scalars.specs.Rows as P
 use Rattle.lexis.specs.Text.{begins}
 use Rattle.lexis.proofs.Lists.{rest}
 use lib.ListN.{length, take, drop}
-use native.Mathlib.Omega.{arith}
 use Prim.Native.Nat.{ℕ, _+_, _-_, _≤_}
 use mathlib.Core.List.{List}
 use mathlib.Core.Bool.{Bool}

@@ -2,7 +2,7 @@
 use mathlib.Core.Path.{refl}
 use mathlib.Core.List.{[], _∷_}
 use Rattle.scalars.specs.Names.{bit-width}
-use Rattle.scalars.specs.declared.scalar.Scalar.the-variants.{I1, I4, I8, I16, I32, I64, F16, BF16, F32, TF32, F64, F8E4M3FN, F8E5M2, F8E8M0FNU, F4E2M1FN, F8E5M3FNU}
+use Rattle.scalars.specs.declared.scalar.Scalar.the-variants.{I4, I8, I16, I32, I64, F16, BF16, F32, TF32, F64, F8E4M3FN, F8E5M2, F8E8M0FNU, F4E2M1FN, F8E5M3FNU}
 use Rattle.scalars.proofs.Classes.{each}
 use borrow.Author.Needs.{needs}
 use Rattle.scalars.proofs.scalar.Scalar.bits.Statement.{statement}
