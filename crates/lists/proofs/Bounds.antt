@@ -7,7 +7,8 @@ use Prim.Native.Nat.{ℕ, suc, _+_, _-_, _≤_}
 use native.Mathlib.Omega.{arith}
 use lib.Dec.{eqb}
 use lib.ListN.{length}
-use Rattle.lexis.specs.Text.{Text, if_then_else_, onto-first, split}
+use Rattle.lexis.specs.Text.{Text, if_then_else_, onto-first, until, split}
+use Rattle.lexis.proofs.Seeking.{until-within}
 use Rattle.meaning.specs.Parts.{front}
 use Rattle.meaning.specs.Found.{Entry, Clause, stands, filled, values, unreadable, lacking}
 use Rattle.meaning.specs.Tile.{dimension, dimensions}
@@ -65,3 +66,7 @@ module _ (w : ℕ) {l : Laid} (x : ℕ) (s : Text) where
       let f = front-length (split x s) in
       let g = split-length x s in
       record { len = omega arith; fell = omega arith }
+
+-- a part is no longer than the text that it begins
+pub part-within : (x : ℕ) (t : Text) {k : ℕ} → k ≡ length (until (eqb x) t) → k ≤ length t
+part-within x t e = let h = until-within (eqb x) t in omega arith

@@ -13,7 +13,7 @@ use Rattle.meaning.specs.Views.{count-up}
 use Rattle.lists.specs.Laid.{Laid, laid}
 use Rattle.lists.specs.Push.{filled-row}
 use Rattle.lists.specs.declared.row.Row.{Row}
-use Rattle.lists.proofs.Laying.{slot}
+use Rattle.meaning.proofs.Slots.{slot}
 
 -- ── the array ──
 

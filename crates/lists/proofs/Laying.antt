@@ -14,8 +14,9 @@ use lib.Seq.{take-all, drop-drop}
 use Rattle.lexis.specs.Text.{Text, until, split}
 use Rattle.lexis.proofs.Lists.{rest}
 use Rattle.lexis.proofs.Seeking.{until-take}
-use Rattle.lexis.proofs.Splitting.{split-more, split-last, split-some, tail}
+use Rattle.lexis.proofs.Splitting.{split-more, split-last}
 use Rattle.meaning.specs.Parts.{last, front}
+use Rattle.meaning.proofs.Slots.{slot}
 use Rattle.meaning.specs.Found.{Came, read, fell, Entry, stands, padded, counted, fallen, unused}
 use Rattle.lists.specs.Laid.{Laid, laid}
 use Rattle.lists.specs.Push.{told, push}
@@ -25,11 +26,6 @@ use Rattle.lists.specs.declared.row.Tally.{Tally}
 
 abbrev pub value : Entry → ℤ
 value e = e .value
-
-pub slot : (n : ℕ) (zs : List ℤ) (z : ℤ) → set (padded n zs) (length zs) z ≡ padded n (zs ++ z ∷ [])
-slot zero zs z = refl
-slot (suc n) [] z = refl
-slot (suc n) (y ∷ ys) z = ap (λ (l : List ℤ). y ∷ l) (slot n ys z)
 
 counted-more : (es : List Entry) (e : Entry) → fallen es + counted (e .came) ≡ fallen (es ++ e ∷ [])
 counted-more [] e = omega arith
@@ -138,18 +134,3 @@ module _ (w x : ℕ) (said : Text → Entry) where
 
     pub last-at : length s - at ≤ k → length (drop at s) ≤ length (until (eqb x) (drop at s))
     last-at h = rw (← from-there, length-drop) h
-
--- ── the entries before the last part, and that of the last ──
-
-front-last : (p : Text) (ps : List Text) → front (p ∷ ps) ++ last (p ∷ ps) ∷ [] ≡ p ∷ ps
-front-last p [] = refl
-front-last p (q ∷ ps) = ap (λ (l : List Text). p ∷ l) (front-last q ps)
-
-pub with-last : (w x : ℕ) (said : Text → Entry) (s : Text) {l l′ : Laid} {e : Entry} → l ≡ laid w (stands (L.map said (front (split x s)))) → e ≡ said (last (split x s)) → l′ ≡ push l e
-    → l′ ≡ laid w (stands (L.map said (split x s)))
-with-last w x said s g p q =
-    let m = split-some x s in
-    let f : front (split x s) ++ last (split x s) ∷ [] ≡ split x s =
-    ap (λ (ps : List Text). front ps ++ last ps ∷ []) m ∙ front-last (until (eqb x) s) (tail (split x s)) ∙ sym m in
-    q ∙ (λ i. push (g i) (p i)) ∙ laid-more w (L.map said (front (split x s))) (said (last (split x s)))
-    ∙ ap (λ (es : List Entry). laid w (stands es)) (sym (map-append said (front (split x s)) (last (split x s) ∷ [])) ∙ ap (L.map said) f)

@@ -2,7 +2,6 @@
 use super::entry::Entry32;
 use super::entry::Entry64;
 use super::entry::dim_of;
-use super::entry::parse_dim;
 use super::entry::parse_small;
 use super::entry::small_of;
 use super::fill::none32;
@@ -130,10 +129,18 @@ fn before_last(s: &[u8], x: u8) -> Front
 pub fn parse_dims(s: &[u8], x: u8) -> List64
     ensures { λ r. ⌜ list64 r ≡ laid 8 (dimensions (split x (now (s .entry)))) ⌝ }
 {
-    let f = before_last(s, x);
-    let l = f.dims;
-    let last = f.last;
-    push64(l, parse_dim(&s[last..]))
+    let mut t = s;
+    let mut l = none64();
+    loop {
+        let p = numerals::part_i64(t, x);
+        let k = p.len;
+        let v = p.value;
+        l = push64(l, dim_of(&t[..k], v));
+        if t.len() <= k {
+            return l;
+        }
+        t = &t[k + 1..];
+    }
 }
 
 // The dimensions before the last `x` of `s`, and where the part after it begins.

@@ -1,5 +1,6 @@
 pub mod Blanks
 pub mod High
+pub mod Slots
 pub mod Whens
 pub mod Everywhere
 pub mod Thin

@@ -11,7 +11,7 @@ use lib.Dec.{leb}
 use lib.ListN.{length, take}
 use lib.Seq.{length-take-le}
 use Rattle.lexis.specs.Text.{Text, if_then_else_, trim, Cut, nowhere, at, cut, place, found, occurs}
-use Rattle.lexis.proofs.Seeking.{cut-nowhere}
+use Rattle.lexis.proofs.Seeking.{cut-nowhere, nowhere-short}
 use Rattle.lexis.proofs.Trimming.{trim-within}
 use Rattle.meaning.specs.Found.{Found, with-attribute}
 use Rattle.meaning.specs.Parts.{each, remove}
@@ -172,3 +172,7 @@ unwritten s room e = record {
 -- what is read on stands in the room, where it is shorter
 pub on-room : {u room t : Text} {m : ℕ} → Rewritten u room m → t ≡ remove mark u → (length t ≡ length u → ⊥) → t ≡ take m room
 on-room {u} g e h = e ∙ sym (g .is (let k = ap length e in let l = g .left in let w = remove-within mark u in omega arith))
+
+-- a text that is shorter than a mark has none
+pub too-short : (s : Text) → length s < 27 → place (cut mark s) ≡ none
+too-short s h = nowhere-short mark s (omega (arith, mark-length))

@@ -71,6 +71,9 @@ pub(crate) fn without_marks(text: &[u8], room: &mut [u8]) -> usize
     requires { ⌜ length (now text) ≤ length (now room) ⌝ }
     ensures { λ r. ⌜ Rewritten (now (text .entry)) (now (room .exit)) r ⌝ }
 {
+    if text.len() < 27 { // shorter than a mark
+        return text.len();
+    }
     match find_mark(text) {
         Found::At(i) => remove(text, i, room),
         Found::Nowhere => text.len(),

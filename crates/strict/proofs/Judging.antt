@@ -11,7 +11,7 @@ use lib.IntN.{ℤ}
 use lib.ListN.{length, drop, getD, length-append, drop-of-length-le}
 use Rattle.lexis.specs.Text.{Text, if_then_else_}
 use Rattle.scalars.specs.declared.scalar.Scalar.{Scalar}
-use Rattle.lists.proofs.Laying.{slot}
+use Rattle.meaning.proofs.Slots.{slot}
 use Rattle.meaning.specs.declared.Padding.{Padding}
 use Rattle.meaning.specs.declared.Reading.{Reading}
 use Rattle.meaning.specs.declared.Refusal.the-variants.{Accepted, TooLong, HighByte, NotStrict, TooMany}

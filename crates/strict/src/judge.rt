@@ -2,11 +2,11 @@
 use super::whole::Whole;
 use super::whole::read_whole;
 use meaning::CAP;
-use meaning::Note;
 use meaning::Padding;
 use meaning::Reading;
 use meaning::Record;
 use meaning::Refusal;
+use meaning::no_note;
 use meaning::refuse;
 use scalars::Scalar;
 ghost use mathlib.Core.Path.{_≡_};
@@ -141,11 +141,6 @@ pub(crate) fn judge(text: &[u8]) -> Reading
         refusal: Refusal::Accepted,
         place: 0,
         value,
-        note: Note {
-            a: 0,
-            b: 0,
-            c: 0,
-            d: 0,
-        },
+        note: no_note(),
     }
 }
