@@ -5,6 +5,7 @@ use Rattle.strict.specs.Plain as P
 use Rattle.grammar.specs.Join.{mapped}
 use Rattle.grammar.specs.Piece.{Answer}
 use Rattle.meaning.specs.declared.Record.{Record}
+use Rattle.meaning.specs.declared.Note.{Note}
 use Rattle.meaning.specs.declared.Reading.{Reading}
 use Rattle.meaning.specs.declared.Refusal.the-variants.{Accepted}
 use borrow.Author.Tests.{not-true, not-false}
@@ -13,8 +14,8 @@ use borrow.Author.Needs.{needs}
 use Rattle.strict.proofs.judge.judge.Statement.{statement}
 use Rattle.strict.proofs.judge.judge.Tie as tie
 
-abbrev accepted-as : Record → Reading
-accepted-as v = record { refusal = Accepted; place = 0; value = v; note = record { a = 0; b = 0; c = 0; d = 0 } }
+abbrev accepted-as : Record → Note → Reading
+accepted-as v n = record { refusal = Accepted; place = 0; value = v; note = n }
 
 pub judge-spec : {M : Type 1} → statement M
 judge-spec =
@@ -32,4 +33,5 @@ judge-spec =
     (λ c κs. search needs)
     (λ c. let s = c .before .before .before .before .before .before .before .before .before .before .before .before .before .before .before .before .before .args .text .now in let m = c .before .before .before .before .before .before .before .before .before .before .read-whole in let w = m .result in let e = M.entire (m .last .1 .0) (m .last .1 .1 .0) (m .last .1 .1 .1 .0) (m .last .1 .1 .1 .1 .0) (m .last .1 .1 .1 .1 .1 .0) w in let b = sym (ap (λ (x : Answer M.Entire). P.judged (mapped P.said x)) (m .ensures .same)) in c .refuse2 .ensures ∙ L.too-many s e (w .end) (c .before .before .before .if1 .left) (sym (c .before .before .within .ensures) ∙ not-true (c .before .before .within .result) (c .before .if2 .taken)) ∙ b)
     (λ c κs. search needs)
-    (λ c. let s = c .before .before .before .before .before .before .before .before .before .before .before .before .before .before .before .before .before .args .text .now in let m = c .before .before .before .before .before .before .before .before .before .before .read-whole in let w = m .result in let e = M.entire (m .last .1 .0) (m .last .1 .1 .0) (m .last .1 .1 .1 .0) (m .last .1 .1 .1 .1 .0) (m .last .1 .1 .1 .1 .1 .0) w in let b = sym (ap (λ (x : Answer M.Entire). P.judged (mapped P.said x)) (m .ensures .same)) in ap accepted-as (c .record-of .ensures) ∙ L.whole s e (w .end) (c .before .before .before .if1 .left) (sym (c .before .before .within .ensures) ∙ not-false (c .before .before .within .result) (c .before .if2 .left)) ∙ b))
+    (λ c κs. search needs)
+    (λ c. let s = c .before .before .before .before .before .before .before .before .before .before .before .before .before .before .before .before .before .before .args .text .now in let m = c .before .before .before .before .before .before .before .before .before .before .before .read-whole in let w = m .result in let e = M.entire (m .last .1 .0) (m .last .1 .1 .0) (m .last .1 .1 .1 .0) (m .last .1 .1 .1 .1 .0) (m .last .1 .1 .1 .1 .1 .0) w in let b = sym (ap (λ (x : Answer M.Entire). P.judged (mapped P.said x)) (m .ensures .same)) in (λ i. accepted-as (c .before .record-of .ensures i) (c .no-note .ensures i)) ∙ L.whole s e (w .end) (c .before .before .before .before .if1 .left) (sym (c .before .before .before .within .ensures) ∙ not-false (c .before .before .before .within .result) (c .before .before .if2 .left)) ∙ b))
