@@ -37,11 +37,10 @@ pub fn no_note() -> Note
 pub fn refuse(refusal: Refusal, place: usize) -> Reading
     ensures { λ r. ⌜ r ≡ refused 8 refusal place ⌝ }
 {
-    let value = blank();
     Reading {
-        refusal,
+        value: blank(),
         place,
-        value,
         note: no_note(),
+        refusal,
     }
 }
