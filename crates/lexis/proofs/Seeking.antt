@@ -1,14 +1,14 @@
 -- Laws of seeking: equality, prefixes, the first place of a text in a text, what stands before a byte.
 use mathlib.Core.Path.{_≡_, refl, sym, ap, _∙_}
 use mathlib.Core.Bool.{Bool, true, false, _&&_, false≢true}
-use mathlib.Core.List.{List, [], _∷_, _++_}
+use mathlib.Core.List.{List, [], _∷_}
 use mathlib.Core.Option.{Option, none, some}
 use Prim.Native.Nat.{ℕ, zero, suc, _+_, _≤_, _<_}
 use native.Mathlib.Nat.{zero-add, add-zero, suc-add}
 use native.Mathlib.Omega.{arith}
 use lib.Dec.{eqb}
 use lib.ListN.{length, take, drop, getD, drop-of-length-le}
-use lib.Seq.{drop-nil, drop-drop}
+use lib.Seq.{drop-nil}
 use borrow.Author.Tests.{eq-eqb, ne-eqb, eqb-true, eqb-false}
 use Rattle.lexis.specs.Text.{if_then_else_, same, begins, after, Cut, nowhere, at, later, cut, found, place, until}
 use Rattle.lexis.proofs.Lists.{view}
@@ -219,48 +219,3 @@ cut-nowhere p s e = by (cut p s) e
     by : (c : Cut) → place c ≡ none → c ≡ nowhere
     by nowhere e = refl
     by (at u t) e = let z : _≡_ {A = ℕ} 0 1 = cc in let f : ⊥ = omega arith in absurd f
-
--- ── a text that ends with q is nowhere where q is nowhere ──
-
-met : (p q s : List ℕ) → begins (p ++ q) s ≡ true → begins q (drop (length p) s) ≡ true
-met [] q s e = e
-met (c ∷ p) q [] e = absurd (false≢true e)
-met (c ∷ p) q (b ∷ s) e = met p q s (right (eqb c b) (begins (p ++ q) s) e)
-
-parted : {u t : List ℕ} → at u t ≡ nowhere → ⊥
-parted e = let z = ap found e in false≢true (sym z)
-
-unbegun : (q s : List ℕ) → cut q s ≡ nowhere → (i : ℕ) → begins q (drop i s) ≡ false
-unbegun q [] e i = rw (drop-nil i) (by (begins q []) e)
-  where
-    by : (d : Bool) → (if d then at [] [] else nowhere) ≡ nowhere → d ≡ false
-    by true e = absurd (parted e)
-    by false e = refl
-unbegun q (b ∷ s) e zero = by (begins q (b ∷ s)) e
-  where
-    by : (d : Bool) → (if d then at [] (after q (b ∷ s)) else later b (cut q s)) ≡ nowhere → d ≡ false
-    by true e = absurd (parted e)
-    by false e = refl
-unbegun q (b ∷ s) e (suc i) = unbegun q s (by (begins q (b ∷ s)) e) i
-  where
-    back : (c : Cut) → later b c ≡ nowhere → c ≡ nowhere
-    back nowhere e = refl
-    back (at u t) e = absurd (parted e)
-
-    by : (d : Bool) → (if d then at [] (after q (b ∷ s)) else later b (cut q s)) ≡ nowhere → cut q s ≡ nowhere
-    by true e = absurd (parted e)
-    by false e = back (cut q s) e
-
-unmet : (p s : List ℕ) → ((i : ℕ) → begins p (drop i s) ≡ false) → cut p s ≡ nowhere
-unmet p [] f = rw (f 0)
-unmet p (b ∷ s) f = rw (f 0) (ap (later b) (unmet p s (λ i. f (suc i))))
-
-pub longer-nowhere : (p q s : List ℕ) → cut q s ≡ nowhere → cut (p ++ q) s ≡ nowhere
-longer-nowhere p q s e = unmet (p ++ q) s (λ i. by (begins (p ++ q) (drop i s)) (met p q (drop i s)) (missed i))
-  where
-    missed : (i : ℕ) → begins q (drop (length p) (drop i s)) ≡ false
-    missed i = ap (begins q) (drop-drop (length p) i s) ∙ unbegun q s e (i + length p)
-
-    by : (d : Bool) {c : Bool} → (d ≡ true → c ≡ true) → c ≡ false → d ≡ false
-    by true h f = absurd (false≢true (sym f ∙ h refl))
-    by false h f = refl

@@ -8,7 +8,6 @@ use Rattle.lexis.specs.Text.{spot}
 use Rattle.lexis.specs.declared.text.Found.{Found}
 use Rattle.lexis.specs.declared.text.Found.the-variants.{At, Nowhere}
 use Rattle.lexis.proofs.blocks.seek.Reads as seek
-use Rattle.lexis.proofs.blocks.seek_either.Reads as seek-either
 use Rattle.lexis.proofs.blocks.seek_outside.Reads as seek-outside
 use Rattle.lexis.proofs.text.same.Reads as same
 use Rattle.lexis.proofs.text.begins.Reads as begins
@@ -51,9 +50,6 @@ until-one κs a x y s t p q = p ∙ sym q
 
 pub seek-one : One seek.Post
 seek-one κs a x y s t p q = p ∙ sym q
-
-pub seek-either-one : One seek-either.Post
-seek-either-one κs a x y s t p q = p ∙ sym q
 
 pub seek-outside-one : One seek-outside.Post
 seek-outside-one κs a x y s t p q = p ∙ sym q

@@ -77,10 +77,6 @@ spot Nowhere = none
 abbrev pub occurs : Text → Text → Bool
 occurs p s = found (cut p s)
 
--- one of two bytes
-abbrev pub either : ℕ → ℕ → ℕ → Bool
-either a b c = eqb c a || eqb c b
-
 -- a byte below lo or above hi
 abbrev pub outside : ℕ → ℕ → ℕ → Bool
 outside lo hi b = ltb b lo || ltb hi b

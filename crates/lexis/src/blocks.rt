@@ -3,7 +3,7 @@ ghost use mathlib.Core.Path.{_≡_};
 ghost use Prim.Native.Nat.{_+_, _≤_};
 ghost use lib.Dec.{eqb};
 ghost use lib.ListN.{drop, length, take};
-ghost use Rattle.lexis.specs.Text.{either, outside, some-of, until};
+ghost use Rattle.lexis.specs.Text.{outside, some-of, until};
 
 // Whether one of the sixteen bytes from `at` on is `b`.
 fn among(text: &[u8], at: usize, b: u8) -> bool
@@ -84,45 +84,6 @@ pub fn seek_outside(text: &[u8], lo: u8, hi: u8) -> usize
     while i < text.len() {
         let c = text[i];
         if (c < lo) | (hi < c) {
-            break;
-        }
-        i += 1;
-    }
-    i
-}
-
-// Whether one of the sixteen bytes from `at` on is `a` or `b`.
-fn among_either(text: &[u8], at: usize, a: u8, b: u8) -> bool
-    requires { ⌜ at + 16 ≤ length (now text) ⌝ }
-    ensures { λ r. ⌜ r ≡ some-of (either a b) (take 16 (drop at (now (text .entry)))) ⌝ }
-{
-    let mut hit = false;
-    let mut j = 0;
-    while j < 16 {
-        let c = text[at + j];
-        hit = hit | ((c == a) | (c == b));
-        j += 1;
-    }
-    hit
-}
-
-// The place of the first `a` or `b` from `from` on, as `seek` tells that of one byte.
-pub fn seek_either(text: &[u8], from: usize, a: u8, b: u8) -> usize
-    ensures { λ r. ⌜ r ≡ from + length (until (either a b) (drop from (now (text .entry)))) ⌝ }
-{
-    let mut i = from;
-    while i < text.len() {
-        if text.len() - i < 16 {
-            break;
-        }
-        if among_either(text, i, a, b) {
-            break;
-        }
-        i += 16;
-    }
-    while i < text.len() {
-        let c = text[i];
-        if (c == a) | (c == b) {
             break;
         }
         i += 1;

@@ -3,7 +3,6 @@ mod blocks;
 mod text;
 
 pub use blocks::seek;
-pub use blocks::seek_either;
 pub use blocks::seek_outside;
 pub use text::Found;
 pub use text::begins;

@@ -3,15 +3,15 @@ use Prim.Native.Nat.{ℕ, zero, suc, _+_, _-_, _≤_, _<_}
 use native.Mathlib.Omega.{arith}
 use mathlib.Core.Bool.{Bool, true, false}
 use mathlib.Core.List.{[], _∷_}
-use mathlib.Core.Option.{Option, none, some}
+use mathlib.Core.Option.{none, some}
 use mathlib.Core.Path.{_≡_, refl, sym, ap, subst, _∙_}
 use borrow.Author.Tests.{ltb-true, ltb-false, eqb-false}
 use lib.Dec.{ltb, eqb}
 use lib.ListN.{length, take, drop, getD, length-drop}
 use lib.Seq.{getD-drop, length-take-le}
-use Rattle.lexis.specs.Text.{Text, bytes, begins, cut, place}
+use Rattle.lexis.specs.Text.{Text, bytes, cut, place}
 use Rattle.lexis.proofs.Lists.{rest}
-use Rattle.port.specs.Seen.{seen, told, Sight}
+use Rattle.port.specs.Seen.{seen, Sight}
 use Rattle.port.specs.Keys.{Behind, Later}
 use Rattle.port.proofs.Seeing as S
 use Rattle.port.proofs.Sighting as L

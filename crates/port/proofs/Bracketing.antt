@@ -1,21 +1,19 @@
 -- Laws of bracket cutting: a `>` at the end, and for callers the content by its length.
-use Prim.Native.Nat.{ℕ, zero, suc, _+_, _-_, _≤_, _<_}
-use native.Mathlib.Nat.{suc-add, add-zero}
-use native.Mathlib.Numerals.{add-one, sub-one}
+use Prim.Native.Nat.{ℕ, _+_, _-_, _≤_, _<_}
+use native.Mathlib.Nat.{suc-add}
 use native.Mathlib.Omega.{arith}
-use mathlib.Core.Bool.{Bool, true, false, _||_, false≢true}
+use mathlib.Core.Bool.{Bool, true, false}
 use mathlib.Core.List.{List, [], _∷_, _++_}
 use mathlib.Core.Option.{Option, none, some}
 use mathlib.Core.Path.{_≡_, refl, sym, ap, _∙_}
 use borrow.Author.Tests.{ne-eqb}
 use lib.Dec.{eqb}
-use lib.ListN.{length, take, drop, getD, drop-of-length-le, length-drop}
-use lib.Seq.{take-length, length-take-le, drop-drop}
-use Rattle.lexis.specs.Text.{Text, if_then_else_, begins, after, Cut, nowhere, at, later, place, either, until}
-use Rattle.lexis.proofs.Lists.{view, behind, rest}
-use Rattle.lexis.proofs.Seeking.{shifted, unshifted, Reach, begins-within, after-drop}
-use Rattle.lexis.proofs.Passing.{shifted-twice, one-later}
-use Rattle.meaning.specs.Parts.{each, shallower, depth, close, less-final, content-by, content, bracketed}
+use lib.ListN.{length, take, drop, getD, length-drop}
+use lib.Seq.{take-length, length-take-le}
+use Rattle.lexis.specs.Text.{Text, if_then_else_, begins, after, Cut, nowhere, at, later, place}
+use Rattle.lexis.proofs.Lists.{behind, rest}
+use Rattle.lexis.proofs.Seeking.{Reach, begins-within, after-drop}
+use Rattle.meaning.specs.Parts.{each, depth, close, less-final, content-by, content, bracketed}
 
 -- ── a `>` at the end ──
 

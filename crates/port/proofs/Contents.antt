@@ -8,7 +8,7 @@ use borrow.Author.Tests.{ltb-true}
 use lib.Dec.{ltb}
 use lib.ListN.{length, take, drop, getD}
 use lib.Seq.{take-length}
-use Rattle.lexis.specs.Text.{Text, begins, place}
+use Rattle.lexis.specs.Text.{Text, begins}
 use Rattle.lexis.proofs.Lists.{rest}
 use Rattle.meaning.specs.Parts.{each, less-final, content, bracketed}
 use Rattle.port.specs.Seen.{told}

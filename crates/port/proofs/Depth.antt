@@ -3,15 +3,15 @@ use Prim.Native.Nat.{ℕ, zero, suc, _+_, _-_, _≤_, _<_}
 use native.Mathlib.Nat.{add-zero}
 use native.Mathlib.Numerals.{add-one, sub-one}
 use native.Mathlib.Omega.{arith}
-use mathlib.Core.Bool.{Bool, true, false, _&&_, _||_, false≢true}
+use mathlib.Core.Bool.{Bool, true, false}
 use mathlib.Core.List.{List, [], _∷_}
 use mathlib.Core.Option.{Option, none, some}
 use mathlib.Core.Path.{_≡_, refl, sym, ap, _∙_}
 use borrow.Author.Tests.{ne-eqb}
-use lib.Dec.{eqb, leb}
-use lib.ListN.{length, take, drop, getD, drop-of-length-le}
+use lib.Dec.{eqb}
+use lib.ListN.{length, drop, getD, drop-of-length-le}
 use lib.Seq.{drop-drop}
-use Rattle.lexis.specs.Text.{Text, if_then_else_, Cut, nowhere, at, later, place, until}
+use Rattle.lexis.specs.Text.{if_then_else_, Cut, nowhere, at, later, place, until}
 use Rattle.lexis.proofs.Lists.{view}
 use Rattle.lexis.proofs.Seeking.{shifted, unshifted}
 use Rattle.lexis.proofs.Passing.{shifted-twice, one-later}

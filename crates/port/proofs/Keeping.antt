@@ -1,20 +1,17 @@
 -- The scan's loop: what is kept from anchor to anchor, and what the answers say.
 use Prim.Native.Nat.{ℕ, _+_, _≤_, _<_}
 use native.Mathlib.Omega.{arith}
-use mathlib.Core.Bool.{Bool, true, false, _&&_, _||_, false≢true}
+use mathlib.Core.Bool.{true, false, false≢true}
 use mathlib.Core.Option.{none, some}
 use mathlib.Core.Path.{_≡_, refl, sym, ap, _∙_}
-use lib.Dec.{eqb, leb}
 use lib.ListN.{length, take, drop, getD}
-use borrow.Author.Tests.{eqb-true}
-use Rattle.lexis.specs.Text.{Text, bytes, place, until}
+use Rattle.lexis.specs.Text.{Text, place, until}
 use Rattle.lexis.proofs.Seeking.{unshifted}
 use Rattle.lexis.proofs.Passing.{sought-within}
 use Rattle.meaning.specs.Parts.{depth, close}
-use Rattle.port.specs.Seen.{hot, told}
+use Rattle.port.specs.Seen.{hot}
 use Rattle.port.specs.Keys.{Sights, Placed, Scanned}
 use Rattle.port.specs.declared.keys.Places.{Places}
-use Rattle.port.specs.declared.survey.Scanning.{Scanning}
 use Rattle.port.proofs.Sighting as L
 use Rattle.port.proofs.Depth as D
 use Rattle.port.proofs.Behinding as B

@@ -1,18 +1,18 @@
 -- Laws of what is seen: one byte more, an anchor, a block, an end, a later start.
 use Prim.Native.Nat.{ℕ, zero, suc, _+_, _-_, _≤_, _<_}
-use native.Mathlib.Nat.{add-zero, zero-add}
+use native.Mathlib.Nat.{add-zero}
 use native.Mathlib.Numerals.{add-one}
 use native.Mathlib.Omega.{arith}
 use mathlib.Core.Bool.{Bool, true, false, _&&_, _||_, false≢true}
-use mathlib.Core.List.{List, [], _∷_}
+use mathlib.Core.List.{[], _∷_}
 use mathlib.Core.Option.{Option, none, some}
 use mathlib.Core.Path.{_≡_, refl, sym, ap, _∙_}
 use borrow.Author.Tests.{eqb-true, eq-eqb, ltb-true, ltb-false}
 use lib.Dec.{eqb, ltb}
-use lib.ListN.{length, take, drop, getD, length-take, length-drop}
-use lib.Seq.{getD-drop, take-all, drop-nil, drop-drop}
+use lib.ListN.{length, take, drop, getD, length-take}
+use lib.Seq.{getD-drop, take-all}
 use Rattle.lexis.specs.Text.{Text, if_then_else_, begins, after, Cut, nowhere, at, later, cut, place, some-of}
-use Rattle.lexis.proofs.Seeking.{never, right, shifted, unshifted, hit, cut-within, begins-within}
+use Rattle.lexis.proofs.Seeking.{never, right, shifted, unshifted, hit, cut-within}
 use Rattle.lexis.proofs.Passing.{one-later, grown}
 use Rattle.port.specs.Seen.{seen}
 

@@ -3,7 +3,7 @@ use Prim.Native.Nat.{ℕ, zero, suc, _≤_, _<_}
 use mathlib.Core.Option.{Option, none}
 use mathlib.Core.Path.{_≡_}
 use lib.ListN.{length, take}
-use Rattle.lexis.specs.Text.{Text, trim, Cut, nowhere, at, cut}
+use Rattle.lexis.specs.Text.{Text, trim, nowhere, at, cut}
 use Rattle.meaning.specs.Found.{Found}
 use Rattle.meaning.specs.Parts.{remove}
 use Rattle.meaning.specs.Ordinary.{unmarked, mark}

@@ -1,4 +1,4 @@
-// What was read, laid out as a record and judged: refusal 5, then refusal 4.
+// What was read, laid out as a record and judged: refusal 2, then 5, then 4.
 use super::whole::Whole;
 use super::whole::read_whole;
 use lexis::Found;

@@ -1,7 +1,6 @@
 -- A dimension by its numeral: one that is readable, else `?`, else the default.
 use borrow.Author.Needs.{needs}
 use mathlib.Core.Path.{sym, ap, _∙_}
-use lib.IntN.{ℤ}
 use Rattle.numerals.specs.Numeral as N
 use Rattle.meaning.specs.Found.{as-read}
 use Rattle.lists.proofs.Entries as L

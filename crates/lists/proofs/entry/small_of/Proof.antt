@@ -1,7 +1,6 @@
 -- A 32-bit entry by its numeral: one that is readable, else the default.
 use borrow.Author.Needs.{needs}
 use mathlib.Core.Path.{sym, ap, _∙_}
-use lib.IntN.{ℤ}
 use Rattle.meaning.specs.Found.{as-read, as-fallen}
 use Rattle.lists.specs.Push.{small-by}
 use Rattle.lists.proofs.entry.small_of.Statement.{statement}

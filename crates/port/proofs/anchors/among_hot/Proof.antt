@@ -2,8 +2,8 @@
 use Rattle.lexis.proofs.Passing as L
 use Rattle.lexis.specs.Text.{some-of}
 use Rattle.port.specs.Seen.{hot}
-use lib.ListN.{length, take, drop, getD}
-use Prim.Native.Nat.{ℕ, _+_, _-_, _≤_}
+use lib.ListN.{take, drop}
+use Prim.Native.Nat.{ℕ, _-_, _≤_}
 use native.Mathlib.Omega.{arith}
 use mathlib.Core.Bool.{_||_}
 use mathlib.Core.Path.{_≡_, refl, sym, ap, _∙_}

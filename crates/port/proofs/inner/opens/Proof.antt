@@ -1,5 +1,4 @@
 -- `opens` meets its contract: the longer prefix that was noted decides, then the shorter, then what stands behind the tile.
-use Prim.Native.Nat.{_+_, _≤_}
 use native.Mathlib.Omega.{arith}
 use mathlib.Core.Option.{some}
 use mathlib.Core.Path.{sym, ap, _∙_}

@@ -1,5 +1,4 @@
 -- `plain_from` meets its contract: the first behind `tile=(` is the first from `behind` on, where it stands there; else it is sought.
-use native.Mathlib.Omega.{arith}
 use mathlib.Core.Path.{sym, ap, _∙_}
 use borrow.Author.Needs.{needs}
 use Rattle.lexis.specs.Text.{Text, bytes, cut, place}

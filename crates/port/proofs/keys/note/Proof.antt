@@ -1,6 +1,4 @@
 -- `note` meets its contract: the first stays; before there is room, or where the keyword doesn't stand, nothing changes.
-use native.Mathlib.Omega.{arith}
-use mathlib.Core.Path.{sym, _∙_}
 use borrow.Author.Needs.{needs}
 use Rattle.port.proofs.Sighting as L
 use Rattle.port.proofs.keys.note.Statement.{statement}

@@ -1,5 +1,4 @@
 -- `note_behind` meets its contract: nothing before `tile=(` has been passed, else what follows it is a text of its own.
-use native.Mathlib.Omega.{arith}
 use borrow.Author.Needs.{needs}
 use Rattle.port.proofs.Behinding as L
 use Rattle.port.proofs.keys.note_behind.Statement.{statement}

@@ -1,5 +1,4 @@
 -- `noted` meets its contract: the keywords that are known by the byte are noted, the others stay.
-use native.Mathlib.Omega.{arith}
 use mathlib.Core.Path.{refl}
 use borrow.Author.Needs.{needs}
 use Rattle.port.proofs.Sighting as L

@@ -1,5 +1,4 @@
 -- `survey_content` meets its contract: without a match, a final `>` ends the content, and no keyword has one.
-use native.Mathlib.Omega.{arith}
 use borrow.Author.Needs.{needs}
 use Rattle.port.proofs.Contents as L
 use Rattle.port.proofs.survey.survey_content.Statement.{statement}

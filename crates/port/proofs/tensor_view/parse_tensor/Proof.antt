@@ -1,6 +1,5 @@
 -- `parse_tensor` meets its contract: a cut at the first `, strides=`, else at the first `,strides=`.
 use borrow.Author.Needs.{needs}
-use Rattle.lexis.specs.Text.{bytes}
 use Rattle.port.proofs.Cutting as L
 use Rattle.port.proofs.Placing as P
 use Rattle.port.proofs.tensor_view.parse_tensor.Statement.{statement}

@@ -1,7 +1,6 @@
 -- `unprefixed` meets its contract: the prefix stands in front or not.
 use Prim.Native.Nat.{_≤_}
-use native.Mathlib.Omega.{arith}
-use mathlib.Core.Path.{_≡_, sym, _∙_}
+use mathlib.Core.Path.{sym, _∙_}
 use borrow.Author.Needs.{needs}
 use lib.ListN.{length}
 use Rattle.lexis.specs.Text.{bytes}

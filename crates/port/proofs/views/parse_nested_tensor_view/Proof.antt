@@ -1,6 +1,4 @@
 -- `parse_nested_tensor_view` meets its contract: where it opens, what is enclosed is read.
-use mathlib.Core.Path.{sym, ap, _∙_}
-use native.Mathlib.Omega.{arith}
 use borrow.Author.Needs.{needs}
 use lib.ListN.{drop}
 use Rattle.port.proofs.Sights as S
