@@ -13,8 +13,8 @@ pub struct Tally {
 // How many entries there are, whether their clause stands or was filled in, and the tally.
 pub struct Row {
     pub len: usize,
-    pub tally: Tally,
     pub stood: bool,
+    pub tally: Tally,
 }
 
 // One entry more that fell back.

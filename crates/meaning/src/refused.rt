@@ -37,10 +37,11 @@ pub fn no_note() -> Note
 pub fn refuse(refusal: Refusal, place: usize) -> Reading
     ensures { λ r. ⌜ r ≡ refused 8 refusal place ⌝ }
 {
+    let value = blank();
     Reading {
-        value: blank(),
-        place,
-        note: no_note(),
         refusal,
+        place,
+        value,
+        note: no_note(),
     }
 }

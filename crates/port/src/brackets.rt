@@ -10,9 +10,9 @@ ghost use Rattle.port.specs.Carried.{Told};
 
 // Whether a form applies, how long its content is then, and the first places of the keywords in it.
 pub(crate) struct Applied {
-    pub(crate) places: Places,
-    pub(crate) len: usize,
     pub(crate) applies: bool,
+    pub(crate) len: usize,
+    pub(crate) places: Places,
 }
 
 // Whether the form that opens with `prefix` applies to `s`. Its content is scanned here, once.

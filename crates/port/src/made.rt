@@ -89,25 +89,26 @@ pub(crate) fn made(
     let walks = traversal.values;
     let one = sparse.values;
     let dim = one[0];
+    let value = Record {
+        shape_len: a.len,
+        strides_len: b.len,
+        tile_len: c.len,
+        map_len: d.len,
+        traversal_len: e.len,
+        shape: shapes,
+        strides: steps,
+        tile: tiles,
+        map: maps,
+        traversal: walks,
+        sparse: dim,
+        kind, // that of the form
+        element,
+        padding,
+        pointer,
+        attribute: marked,
+    };
     Reading {
-        value: Record {
-            shape_len: a.len,
-            strides_len: b.len,
-            tile_len: c.len,
-            map_len: d.len,
-            traversal_len: e.len,
-            shape: shapes,
-            strides: steps,
-            tile: tiles,
-            map: maps,
-            traversal: walks,
-            sparse: dim,
-            kind, // that of the form
-            element,
-            padding,
-            pointer,
-            attribute: marked,
-        },
+        value,
         place: 0,
         note,
         refusal: Refusal::Accepted,

@@ -20,10 +20,10 @@ ghost use Rattle.port.specs.Carried.{carried, answered, Tensor-is};
 
 // A tensor view's parts, where there is one.
 pub struct Tensor {
+    pub found: bool,
+    pub element: Scalar,
     pub shape: List64,
     pub strides: List64,
-    pub element: Scalar,
-    pub found: bool,
 }
 
 // `[shape x]scalar, strides=[strides]`.

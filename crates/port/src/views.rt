@@ -30,17 +30,17 @@ ghost use Rattle.port.specs.Carried.{carried, built, answered, Sound, Te
 
 // The tile shape, and where what follows its `)` begins.
 pub struct TileShape {
+    pub found: bool,
     pub tile: List32,
     pub behind: usize,
-    pub found: bool,
 }
 
 // What the three views share.
 pub struct View {
+    pub found: bool,
     pub tile: List32,
     pub tensor: Tensor,
     pub padding: Padding,
-    pub found: bool,
 }
 
 // A list that runs to the next `]`: where it begins and ends.

@@ -3,7 +3,7 @@ use Prim.Native.Nat.{ℕ, zero, suc, _+_, _-_, _≤_, _<_}
 use native.Mathlib.Omega.{arith}
 use mathlib.Core.Bool.{Bool, true, false, cond, _&&_}
 use mathlib.Core.List.{List, [], _∷_, _++_, append-assoc, append-nil}
-use mathlib.Core.Option.{Option, none, some}
+use mathlib.Core.Option.{none, some}
 use mathlib.Core.Path.{_≡_, refl, sym, ap, subst, _∙_}
 use borrow.Author.Tests.{le-leb, lt-leb, leb-true}
 use lib.Dec.{leb}
@@ -14,7 +14,6 @@ use Rattle.scalars.specs.declared.scalar.Scalar.{Scalar}
 use Rattle.meaning.proofs.Slots.{slot}
 use Rattle.meaning.specs.declared.Padding.{Padding}
 use Rattle.meaning.specs.declared.Reading.{Reading}
-use Rattle.meaning.specs.declared.Refusal.{Refusal}
 use Rattle.meaning.specs.declared.Refusal.the-variants.{Accepted, TooLong, HighByte, NotStrict, TooMany}
 use Rattle.meaning.specs.Found.{padded}
 use Rattle.meaning.specs.Refusals.{number}
@@ -178,11 +177,3 @@ module _ (s : Text) {r : Reading} where
       low (got a []) q z = strict-low s a (G.strict-sound s a q)
       low (got a (c ∷ x)) q z = absurd (five z)
       low (stuck x) q z = absurd (five z)
-
-  -- refused, also where it has a high byte
-  pub refused-on : Bridge → length s ≤ 1024 → (why : Refusal) → refused 8 why 0 ≡ P.judged (mapped P.said (W.whole s)) → r ≡ P.high-or why (high-from 0 s) → r ≡ answer 8 1024 s
-  refused-on bridge h why e f = by (high-from 0 s) refl
-    where
-      by : (o : Option ℕ) → high-from 0 s ≡ o → r ≡ answer 8 1024 s
-      by none k = read-on bridge h k (f ∙ ap (P.high-or why) k ∙ e)
-      by (some i) k = high-at i h k (f ∙ ap (P.high-or why) k)

@@ -2,7 +2,6 @@
 use Prim.Native.Nat.{ℕ}
 use mathlib.Core.Bool.{Bool, cond, _&&_}
 use mathlib.Core.List.{[], _∷_}
-use mathlib.Core.Option.{Option, none, some}
 use lib.Dec.{leb}
 use lib.IntN.{ℤ}
 use Rattle.lexis.specs.Text.{if_then_else_}
@@ -13,8 +12,7 @@ use Rattle.meaning.specs.declared.Padding.{Padding}
 use Rattle.meaning.specs.declared.Padding.the-variants as P
 use Rattle.meaning.specs.declared.Record.{Record}
 use Rattle.meaning.specs.declared.Reading.{Reading}
-use Rattle.meaning.specs.declared.Refusal.{Refusal}
-use Rattle.meaning.specs.declared.Refusal.the-variants.{Accepted, HighByte, NotStrict, TooMany}
+use Rattle.meaning.specs.declared.Refusal.the-variants.{Accepted, NotStrict, TooMany}
 use Rattle.meaning.specs.Strict.{nth, scalars, paddings}
 use Rattle.meaning.specs.Meant.{Any}
 use Rattle.meaning.specs.Ordinary.{refused}
@@ -104,8 +102,3 @@ abbrev pub judged : Answer Plain → Reading
 judged (got p []) = if small p then accepted p else refused 8 TooMany 0
 judged (got p (c ∷ r)) = refused 8 NotStrict 0
 judged (stuck r) = refused 8 NotStrict 0
-
--- the place of a byte of 128 or more, or another refusal
-abbrev pub high-or : Refusal → Option ℕ → Reading
-high-or why none = refused 8 why 0
-high-or why (some place) = refused 8 HighByte place

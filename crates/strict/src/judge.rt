@@ -1,25 +1,20 @@
-// What was read, laid out as a record and judged: refusal 2, then 5, then 4.
+// What was read, laid out as a record and judged: refusal 5, then refusal 4.
 use super::whole::Whole;
 use super::whole::read_whole;
-use lexis::Found;
 use meaning::CAP;
 use meaning::Padding;
 use meaning::Reading;
 use meaning::Record;
 use meaning::Refusal;
-use meaning::first_high;
 use meaning::no_note;
 use meaning::refuse;
 use scalars::Scalar;
 ghost use mathlib.Core.Path.{_≡_};
 ghost use mathlib.Core.Bool.{_&&_};
 ghost use lib.Dec.{leb};
-ghost use Prim.Native.Nat.{_≤_};
-ghost use lib.ListN.{length};
-ghost use Rattle.meaning.specs.Ordinary.{high-from};
-ghost use Rattle.meaning.specs.Meant.{Strictly};
-ghost use Rattle.strict.specs.Whole.{entire};
-ghost use Rattle.strict.specs.Plain.{scalar, padding, said, record-of, high-or};
+ghost use Rattle.grammar.specs.Join.{mapped};
+ghost use Rattle.strict.specs.Whole.{entire, whole};
+ghost use Rattle.strict.specs.Plain.{scalar, padding, said, record-of, judged};
 
 // The scalar of each name, by its number.
 fn scalar_of(k: usize) -> Scalar
@@ -118,20 +113,9 @@ fn within(w: Whole) -> bool
     (w.shape <= CAP) & (w.strides <= CAP) & (w.tile <= CAP) & (w.map <= CAP) & (w.walk <= CAP)
 }
 
-// Refusal 2, or this one. No strict form has a byte of 128 or more, so that such a byte is sought only in a text that is refused.
-fn refused(text: &[u8], why: Refusal) -> Reading
-    ensures { λ r. ⌜ r ≡ high-or why (high-from 0 (now (text .entry))) ⌝ }
-{
-    match first_high(text) {
-        Found::At(place) => refuse(Refusal::HighByte, place),
-        Found::Nowhere => refuse(why, 0),
-    }
-}
-
 // The type is accepted if it is the whole text.
 pub(crate) fn judge(text: &[u8]) -> Reading
-    requires { ⌜ length (now text) ≤ 1024 ⌝ }
-    ensures { λ r. ⌜ Strictly 8 1024 (now (text .entry)) r ⌝ }
+    ensures { λ r. ⌜ r ≡ judged (mapped said (whole (now (text .entry)))) ⌝ }
 {
     let mut shape = [0i64; CAP];
     let mut strides = [0i64; CAP];
@@ -147,15 +131,16 @@ pub(crate) fn judge(text: &[u8]) -> Reading
         &mut walk,
     );
     if w.end != text.len() {
-        return refused(text, Refusal::NotStrict);
+        return refuse(Refusal::NotStrict, 0);
     }
     if !within(w) {
-        return refused(text, Refusal::TooMany);
+        return refuse(Refusal::TooMany, 0);
     }
+    let value = record_of(w, shape, strides, tile, map, walk);
     Reading {
-        value: record_of(w, shape, strides, tile, map, walk),
-        place: 0,
-        note: no_note(),
         refusal: Refusal::Accepted,
+        place: 0,
+        value,
+        note: no_note(),
     }
 }
