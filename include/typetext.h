@@ -46,7 +46,8 @@ extern "C" {
 /* The most bytes that a sheet of texts can have; a longer one is refused with TYPETEXT_SHEET_TOO_LONG. */
 #define TYPETEXT_LONGEST_SHEET 65536
 
-/* No call takes more bytes of stack than this, whatever it is handed; for threads with a small stack. */
+/* No call takes more bytes of stack than this, for threads with a small one: measured on the texts that are hardest on it,
+ * not proved. */
 #define TYPETEXT_STACK 24576
 
 /* An entry of `shape` or `strides` that is known only when the kernel runs; written `?`. */

@@ -136,18 +136,37 @@ static void marks(void)
     repeated("marks in a row", "token", MARK, "", 0);
 }
 
-static void lists(void)
+/* Long lists and numerals, spaces, and brackets in brackets. */
+static void repeats(void)
 {
-    repeated("a long shape", "tile<", "1x", "f32>", 4);
-    repeated("a shape of nothing", "tile<", "x", "f32>", 4);
-    repeated("a pointer tile's long shape", "tile<", "1x", "ptr<f32>>", 4);
-    repeated("a tensor's long shape", "tensor_view<", "?x", "f32>", 4);
-    repeated("long strides", "tensor_view<f32, strides=[", "1,", "1]>", 4);
-    repeated("a long tile shape", "partition_view<tile=(", "1x", "1), tensor_view<f32>>", 4);
-    repeated("a long dim_map", "partition_view<tile=(4), tensor_view<f32>, dim_map=[", "1,", "1]>", 4);
-    repeated("long traversal_strides", "strided_view<tile=(4), traversal_strides=[", "1,", "1], tensor_view<f32>>", 4);
-    repeated("a long numeral", "tile<", "1", "xf32>", 0);
-    repeated("a long sparse_dim", "gather_scatter_view<tile=(4), tensor_view<f32>, sparse_dim=", "1", ">", 0);
+    static const struct {
+        const char *name, *before, *unit, *behind;
+        int refusal;
+    } rows[] = {
+        {"a long shape", "tile<", "1x", "f32>", 4},
+        {"a shape of nothing", "tile<", "x", "f32>", 4},
+        {"a pointer tile's long shape", "tile<", "1x", "ptr<f32>>", 4},
+        {"a tensor's long shape", "tensor_view<", "?x", "f32>", 4},
+        {"long strides", "tensor_view<f32, strides=[", "1,", "1]>", 4},
+        {"a long tile shape", "partition_view<tile=(", "1x", "1), tensor_view<f32>>", 4},
+        {"a long dim_map", "partition_view<tile=(4), tensor_view<f32>, dim_map=[", "1,", "1]>", 4},
+        {"long traversal_strides", "strided_view<tile=(4), traversal_strides=[", "1,", "1], tensor_view<f32>>", 4},
+        {"a long numeral", "tile<", "1", "xf32>", 0},
+        {"a long sparse_dim", "gather_scatter_view<tile=(4), tensor_view<f32>, sparse_dim=", "1", ">", 0},
+        {"spaces before a type", "", " ", "tile<f32>", 0},
+        {"spaces behind a type", "tile<f32>", " ", "", 0},
+        {"ptr< in ptr<", "", "ptr<", "", 3},
+        {"tile< in tile<", "", "tile<", "", 3},
+        {"pointers to pointers", "tile<", "ptr<", "f32>", 3},
+        {"tensor_view< in tensor_view<", "", "tensor_view<", "", 3},
+        {"views in views", "", "partition_view<tile=(4), ", "tensor_view<f32>>", 0},
+        {"strided views in strided views", "", "strided_view<tile=(4), traversal_strides=[1], ", "tensor_view<f32>>", 0},
+        {"closing brackets behind", "tile<f32>", ">", "", 0},
+        {"prefixes", "", "!cuda_tile.", "tile<f32>", 3},
+    };
+    size_t i;
+    for (i = 0; i < sizeof rows / sizeof *rows; i++)
+        repeated(rows[i].name, rows[i].before, rows[i].unit, rows[i].behind, rows[i].refusal);
 }
 
 static void one_byte(void)
@@ -165,21 +184,6 @@ static void one_byte(void)
     memset(high, 0, sizeof high);
     add("1024 bytes 0", high, sizeof high, 3);
     add("no byte", "", 0, 3);
-    repeated("spaces before a type", "", " ", "tile<f32>", 0);
-    repeated("spaces behind a type", "tile<f32>", " ", "", 0);
-}
-
-static void brackets(void)
-{
-    repeated("ptr< in ptr<", "", "ptr<", "", 3);
-    repeated("tile< in tile<", "", "tile<", "", 3);
-    repeated("pointers to pointers", "tile<", "ptr<", "f32>", 3);
-    repeated("tensor_view< in tensor_view<", "", "tensor_view<", "", 3);
-    repeated("views in views", "", "partition_view<tile=(4), ", "tensor_view<f32>>", 0);
-    repeated("strided views in strided views", "", "strided_view<tile=(4), traversal_strides=[1], ",
-             "tensor_view<f32>>", 0);
-    repeated("closing brackets behind", "tile<f32>", ">", "", 0);
-    repeated("prefixes", "", "!cuda_tile.", "tile<f32>", 3);
 }
 
 #define EIGHT(entry, sep) entry sep entry sep entry sep entry sep entry sep entry sep entry sep entry
@@ -441,9 +445,8 @@ int main(int words, char **word)
     if (words != 2 || s == MAP_FAILED)
         return 2;
     marks();
-    lists();
+    repeats();
     one_byte();
-    brackets();
     kinds();
     sheets(count);
     recorded();

@@ -79,8 +79,9 @@ pub const DYNAMIC: i64 = i64::MIN;
 /// The most bytes that the readers take.
 pub const LONGEST_TEXT: usize = 1024;
 
-/// The most bytes of stack that a call of the library takes, whatever it is handed; for threads with a small stack. This
-/// crate's own part comes on top of it: answers, and copies of them where nothing is optimised.
+/// The most bytes of stack that a call of the library takes, for threads with a small one: measured on the texts that are
+/// hardest on it, not proved. This crate's own part comes on top of it: answers, and copies of them where nothing is
+/// optimised.
 pub const STACK: usize = 24576;
 
 /// The most bytes of a sheet.

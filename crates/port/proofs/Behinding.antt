@@ -47,7 +47,7 @@ module _ {s : Text} {i t n : ℕ} (g : Behind s i t n) where
       let z : i - (t + 6) ≡ i + 1 - (t + 6) = omega arith in
       record { past = λ k. subst (λ (j : ℕ). Sight (bytes "tensor_view<") 0 (drop (t + 6) s) j n) z (g .past k); shut = g .shut }
 
-  -- noted
+  -- sighted
   pub handed : t < length s → Sight (bytes "tensor_view<") 0 (take (length s - (t + 6)) (drop (t + 6) s)) (i - (t + 6)) n
   handed h = rw (rest s (t + 6)) (g .past h)
 
@@ -72,7 +72,7 @@ module _ {s : Text} {i t n : ℕ} (g : Behind s i t n) where
         shut = g .shut;
       })
 
-  -- the first `tile=(` is noted, or none
+  -- the first `tile=(` is sighted, or none
   pub tiled : {u : ℕ} → Sight (bytes "tile=(") 1 s i t → Sight (bytes "tile=(") 1 s (i + 1) u → (getD s i 0 ≡ 60 → ⊥) → Behind s (i + 1) u n
   tiled {u} a b f = split t (length s)
       (λ h.

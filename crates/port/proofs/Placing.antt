@@ -1,4 +1,4 @@
--- What the noted places say of a content c, for callers; and of a content that ends at a final `>`, one byte before the text.
+-- What the sighted places say of a content c, for callers; and of a content that ends at a final `>`, one byte before the text.
 use Prim.Native.Nat.{ℕ, zero, suc, _+_, _-_, _≤_, _<_}
 use native.Mathlib.Omega.{arith}
 use mathlib.Core.Bool.{Bool, true, false}

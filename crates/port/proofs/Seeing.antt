@@ -174,8 +174,8 @@ module _ (p s : Text) (j m : ℕ) (l : j + suc m ≡ length p) where
       let x : a ≡ i - j = omega arith in ap (λ (k : ℕ). begins p (drop k s)) x ∙ n)
 
   -- where it stands, it is the first
-  pub noted : (i : ℕ) → j ≤ i → seen p (i + m) s ≡ none → begins p (drop (i - j) s) ≡ true → seen p (i + 1 + m) s ≡ some (i - j)
-  noted i h n e = on i ∙ first p s (i + m) (i - j) (omega arith) n (omega arith) e
+  pub sighted : (i : ℕ) → j ≤ i → seen p (i + m) s ≡ none → begins p (drop (i - j) s) ≡ true → seen p (i + 1 + m) s ≡ some (i - j)
+  sighted i h n e = on i ∙ first p s (i + m) (i - j) (omega arith) n (omega arith) e
 
   pub stays : (i n : ℕ) → seen p (i + m) s ≡ some n → seen p (i + 1 + m) s ≡ some n
   stays i n e = on i ∙ kept p s (i + m) n (omega arith) e

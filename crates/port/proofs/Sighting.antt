@@ -44,7 +44,7 @@ narrow N n p c e l h = by (place (cut p c)) e (λ k q. cut-within p c k q)
     by none e f = told-none (length c) n (let g = told-none-is N n e in omega arith)
     by (some k) e f = let z = told-is N n e in let w = f k refl in told-some (length c) n (omega arith) ∙ ap some z
 
--- ── one keyword, noted ──
+-- ── one keyword, sighted ──
 
 module _ {p : Text} {m : ℕ} (h : m < length p) where
   pub unseen : (s : Text) → Sight p m s 0 (length s)
@@ -64,7 +64,7 @@ module _ {p : Text} {m : ℕ} (h : m < length p) where
       pub there : length s ≤ was → i < length s → d ≡ true → Sight p m s (i + 1) (i - (length p - m - 1))
       there w k t = record {
         is = told-some (length s) (i - (length p - m - 1)) (omega arith)
-            ∙ sym (S.noted p s (length p - m - 1) m (omega arith) i l (sym (e .is) ∙ told-none (length s) was w) (stood ∙ t));
+            ∙ sym (S.sighted p s (length p - m - 1) m (omega arith) i l (sym (e .is) ∙ told-none (length s) was w) (stood ∙ t));
       }
 
       pub not-there : d ≡ false → Sight p m s (i + 1) was

@@ -16,7 +16,7 @@ pub record Behind (s : Text) (i t n : ℕ) : Type 0 where
   pub past : t < length s → Sight (bytes "tensor_view<") 0 (drop (t + 6) s) (i - (t + 6)) n
   pub shut : length s ≤ t → n ≡ length s
 
--- what has been noted before the place i
+-- what has been sighted before the place i
 pub record Sights (s : Text) (i : ℕ) (r : Places) : Type 0 where
   pub ptr : Sight (bytes "ptr<") 0 s i (r .ptr)
   pub spaced : Sight (bytes ", strides=") 0 s i (r .spaced)

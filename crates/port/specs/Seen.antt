@@ -1,5 +1,6 @@
 -- The first place of a text among the first bytes of another.
 use Prim.Native.Nat.{ℕ, suc, _+_, _-_}
+use Prim.Native.Char.{code}
 use mathlib.Core.Bool.{Bool, _&&_, _||_}
 use mathlib.Core.Option.{Option, none, some}
 use mathlib.Core.Path.{_≡_}
@@ -25,4 +26,4 @@ key p m = getD p (length p - suc m) 0
 
 -- the bytes by which keywords and brackets are known
 abbrev pub hot : ℕ → Bool
-hot b = (leb 60 b && leb b 62) || eqb b 103
+hot b = (leb (code "<") b && leb b (code ">")) || eqb b (code "g")

@@ -1,4 +1,4 @@
-// The first places of the keywords, one byte further.
+// Where the keywords first stand, kept while a content is scanned.
 ghost use mathlib.Core.Path.{_≡_};
 ghost use Prim.Native.Nat.{_+_, _<_};
 ghost use lib.ListN.{length};
@@ -21,6 +21,7 @@ pub struct Places {
     pub plain: usize,
 }
 
+// Before the first byte.
 pub(crate) fn none_yet(s: &[u8]) -> Places
     ensures { λ r. ⌜ Sights (now (s .entry)) 0 r ⌝ }
 {
@@ -41,7 +42,7 @@ pub(crate) fn none_yet(s: &[u8]) -> Places
 }
 
 // `p` is known by its byte before the last `m`: `was` is the first of those whose byte stands before `i`.
-fn note(s: &[u8], i: usize, p: &[u8], m: usize, was: usize) -> usize
+fn sight(s: &[u8], i: usize, p: &[u8], m: usize, was: usize) -> usize
     requires { ⌜ (i < length (now s)) × (m < length (now p)) × Sight (now p) m (now s) i was ⌝ }
     ensures { λ r. ⌜ Sight (now (p .entry)) m (now (s .entry)) (i + 1) r ⌝ }
 {
@@ -60,7 +61,7 @@ fn note(s: &[u8], i: usize, p: &[u8], m: usize, was: usize) -> usize
 }
 
 // The same of `tensor_view<` in what follows `tile=(`, which stands at `tile`.
-fn note_behind(s: &[u8], i: usize, tile: usize, was: usize) -> usize
+fn sight_behind(s: &[u8], i: usize, tile: usize, was: usize) -> usize
     requires { ⌜ (i < length (now s)) × Behind (now s) i tile was ⌝ }
     ensures { λ r. ⌜ Behind (now (s .entry)) (i + 1) tile r ⌝ }
 {
@@ -74,10 +75,11 @@ fn note_behind(s: &[u8], i: usize, tile: usize, was: usize) -> usize
         return was;
     }
     let b = tile + 6;
-    note(&s[b..], i - b, b"tensor_view<", 0, was)
+    sight(&s[b..], i - b, b"tensor_view<", 0, was)
 }
 
-pub(crate) fn noted(s: &[u8], i: usize, r: Places) -> Places
+// The places after one hot byte more: each keyword is compared where its own byte stands.
+pub(crate) fn sighted(s: &[u8], i: usize, r: Places) -> Places
     requires { ⌜ (i < length (now s)) × Sights (now s) i r ⌝ }
     ensures { λ q. ⌜ Sights (now (s .entry)) (i + 1) q ⌝ }
 {
@@ -96,12 +98,12 @@ pub(crate) fn noted(s: &[u8], i: usize, r: Places) -> Places
     if b == b'=' {
         return Places {
             ptr,
-            spaced: note(s, i, b", strides=", 0, spaced),
-            bare: note(s, i, b",strides=", 0, bare),
-            tile: note(s, i, b"tile=(", 1, tile),
-            map: note(s, i, b"dim_map=[", 1, map),
-            traversal: note(s, i, b"traversal_strides=[", 1, traversal),
-            sparse: note(s, i, b"sparse_dim=", 0, sparse),
+            spaced: sight(s, i, b", strides=", 0, spaced),
+            bare: sight(s, i, b",strides=", 0, bare),
+            tile: sight(s, i, b"tile=(", 1, tile),
+            map: sight(s, i, b"dim_map=[", 1, map),
+            traversal: sight(s, i, b"traversal_strides=[", 1, traversal),
+            sparse: sight(s, i, b"sparse_dim=", 0, sparse),
             named,
             prefixed,
             padding,
@@ -110,17 +112,17 @@ pub(crate) fn noted(s: &[u8], i: usize, r: Places) -> Places
     }
     if b == b'<' {
         return Places {
-            ptr: note(s, i, b"ptr<", 0, ptr),
+            ptr: sight(s, i, b"ptr<", 0, ptr),
             spaced,
             bare,
             tile,
             map,
             traversal,
             sparse,
-            named: note(s, i, b"tensor_view=!cuda_tile.tensor_view<", 0, named),
-            prefixed: note(s, i, b"!cuda_tile.tensor_view<", 0, prefixed),
+            named: sight(s, i, b"tensor_view=!cuda_tile.tensor_view<", 0, named),
+            prefixed: sight(s, i, b"!cuda_tile.tensor_view<", 0, prefixed),
             padding,
-            plain: note_behind(s, i, tile, plain),
+            plain: sight_behind(s, i, tile, plain),
         };
     }
     if b == b'g' {
@@ -134,7 +136,7 @@ pub(crate) fn noted(s: &[u8], i: usize, r: Places) -> Places
             sparse,
             named,
             prefixed,
-            padding: note(s, i, b"padding_value", 6, padding),
+            padding: sight(s, i, b"padding_value", 6, padding),
             plain,
         };
     }

@@ -1,8 +1,8 @@
-// The scan.
+// The scan: from hot byte to hot byte up to the content's matching bracket; the keywords' first places are taken on the way.
 use super::anchors::seek_hot;
 use super::keys::Places;
 use super::keys::none_yet;
-use super::keys::noted;
+use super::keys::sighted;
 ghost use mathlib.Core.Path.{_≡_};
 ghost use mathlib.Core.Option.{some};
 ghost use Prim.Native.Nat.{_<_};
@@ -29,6 +29,7 @@ fn deepened(d: usize, b: u8) -> usize
     d
 }
 
+// Scans `s`, of which a content is the front.
 pub(crate) fn scan(s: &[u8]) -> Scanning
     ensures { λ r. ⌜ Scanned (now (s .entry)) r ⌝ }
 {
@@ -43,7 +44,7 @@ pub(crate) fn scan(s: &[u8]) -> Scanning
             }
         }
         d = deepened(d, b);
-        r = noted(s, i, r);
+        r = sighted(s, i, r);
         i = seek_hot(s, i + 1);
     }
     Scanning {

@@ -1,4 +1,4 @@
--- `opens` meets its contract: the longer prefix that was noted decides, then the shorter, then what stands behind the tile.
+-- `opens` meets its contract: the longer prefix that was sighted decides, then the shorter, then what stands behind the tile.
 use native.Mathlib.Omega.{arith}
 use mathlib.Core.Option.{some}
 use mathlib.Core.Path.{sym, ap, _∙_}

@@ -42,5 +42,5 @@ scan-spec =
     (λ c κs. search needs)
     less
     (λ c. L.again (c .before .before .before .before .before .before .loop .inv) (search needs) (c .before .before .deepened .ensures)
-    (c .before .noted .ensures) (c .seek-hot2 .ensures))
+    (c .before .sighted .ensures) (c .seek-hot2 .ensures))
     (λ c. L.unmatched (c .before .loop .inv) (search needs)))

@@ -1,4 +1,4 @@
--- `parse_tile` meets its contract: by the first `ptr<` that was noted.
+-- `parse_tile` meets its contract: by the first `ptr<` that was sighted.
 use mathlib.Core.Path.{sym, ap, _∙_}
 use native.Mathlib.Omega.{arith}
 use borrow.Author.Needs.{needs}

@@ -1,4 +1,4 @@
--- `list_after` meets its contract: the prefix was noted, then the `]` behind it is found.
+-- `list_after` meets its contract: the prefix was sighted, then the `]` behind it is found.
 use mathlib.Core.Path.{sym, ap, _∙_}
 use native.Mathlib.Omega.{arith}
 use borrow.Author.Needs.{needs}

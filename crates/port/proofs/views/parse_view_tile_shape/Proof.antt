@@ -1,4 +1,4 @@
--- `parse_view_tile_shape` meets its contract: `tile=(` was noted, then the `)` behind it is found.
+-- `parse_view_tile_shape` meets its contract: `tile=(` was sighted, then the `)` behind it is found.
 use mathlib.Core.Path.{sym, ap, _∙_}
 use native.Mathlib.Omega.{arith}
 use borrow.Author.Needs.{needs}

@@ -1,11 +1,11 @@
--- `note` meets its contract: the first stays; before there is room, or where the keyword doesn't stand, nothing changes.
+-- `sight` meets its contract: the first stays; before there is room, or where the keyword doesn't stand, nothing changes.
 use borrow.Author.Needs.{needs}
 use Rattle.port.proofs.Sighting as L
-use Rattle.port.proofs.keys.note.Statement.{statement}
-use Rattle.port.proofs.keys.note.Tie as tie
+use Rattle.port.proofs.keys.sight.Statement.{statement}
+use Rattle.port.proofs.keys.sight.Tie as tie
 
-pub note-spec : {M : Type 1} → statement M
-note-spec =
+pub sight-spec : {M : Type 1} → statement M
+sight-spec =
     tie.close
     (tie.spec
     (λ c. let q = c .before .before .before .pre in L.already (q .1) (q .2) (search needs))
