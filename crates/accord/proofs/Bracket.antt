@@ -8,8 +8,8 @@ use lib.Dec.{T, eqb, eqb→eq}
 use Rattle.lexis.specs.Text.{Cut, at, later, if◌then◌else◌}
 use Rattle.lexis.proofs.Seeking.{turned}
 use Rattle.meaning.specs.Parts.{shallower, depth, close}
-use Rattle.grammar.specs.Tests.{every, and_left, and_right, T-not-eq}
-use Rattle.accord.proofs.Shape.{Shape, In, lit, run, alt, seq, the, all, left, right, both, pushes, pushes-++, pushes-at}
+use Rattle.grammar.specs.Tests.{every, and_left, and_right, TNotEq}
+use Rattle.accord.proofs.Shape.{Shape, In, lit, run, alt, seq, the, all, left, right, both, pushes, pushes-++, pushes_at}
 
 abbrev pub moves : ℕ → List ℕ → Option ℕ
 moves d [] = some d
@@ -35,9 +35,9 @@ lift : (c : ℕ) (o : Option ℕ) (k : Cut) (t s : List ℕ) → Reach o k t s �
 lift c none k t s r = tt
 lift c (some e) k t s r = ap (later c) r
 
-lit-ok : (l : List ℕ) (d : ℕ) (s : List ℕ) → Reach (moves d l) (close d (l ++ s)) l s
-lit-ok [] d s = refl
-lit-ok (c ∷ l) d s = step (λ e. lit-ok l e s) (depth d c)
+lit_ok : (l : List ℕ) (d : ℕ) (s : List ℕ) → Reach (moves d l) (close d (l ++ s)) l s
+lit_ok [] d s = refl
+lit_ok (c ∷ l) d s = step (λ e. lit_ok l e s) (depth d c)
   where
     step : ((e : ℕ) → Reach (moves e l) (close e (l ++ s)) l s) → (o : Option ℕ) →
         Reach (elim o [ none ↦ none | some e ↦ moves e l ]) (elim o [ none ↦ at [] (l ++ s) | some e ↦ later c (close e (l ++ s)) ]) (c ∷ l) s
@@ -57,7 +57,7 @@ lacks C x n c h = go (eqb x c) (λ e. no_both (C x) n (subst (λ (z : ℕ). T (C
     go false f = tt
 
 pub apart : (C : ℕ → Bool) (x b : ℕ) → T (not (C x)) → T (C b) → eqb b x ≡ false
-apart C x b n h = turned b x ∙ T-not-eq (eqb x b) (lacks C x n b h)
+apart C x b n h = turned b x ∙ TNotEq (eqb x b) (lacks C x n b h)
 
 run_ok : (C : ℕ → Bool) → T (not (C 60)) → T (not (C 62)) → (t : List ℕ) → T (every C t) → (d : ℕ) (s : List ℕ) → close d (t ++ s) ≡ pushes t (close d s)
 run_ok C n m [] h d s = refl
@@ -67,8 +67,8 @@ run_ok C n m (b ∷ t) h d s =
     ∙ ap (λ (k : Bool). if k then shallower d else some d) (apart C 62 b m (and_left (C b) (every C t) h)))
     ∙ ap (later b) (run_ok C n m t (and_right (C b) (every C t) h) d s)
 
-run-reach : (C : ℕ → Bool) (t : List ℕ) → T (every C t) → (d : ℕ) (s : List ℕ) → Reach (cond (C 60 || C 62) none (some d)) (close d (t ++ s)) t s
-run-reach C t h d s = go (C 60) (C 62) (λ n m. run_ok C n m t h d s)
+run_reach : (C : ℕ → Bool) (t : List ℕ) → T (every C t) → (d : ℕ) (s : List ℕ) → Reach (cond (C 60 || C 62) none (some d)) (close d (t ++ s)) t s
+run_reach C t h d s = go (C 60) (C 62) (λ n m. run_ok C n m t h d s)
   where
     go : (x y : Bool) → (T (not x) → T (not y) → close d (t ++ s) ≡ pushes t (close d s)) → Reach (cond (x || y) none (some d)) (close d (t ++ s)) t s
     go true y f = tt
@@ -100,8 +100,8 @@ chain b (some e) k u v s r f = on (deep e b) (f e)
 
 -- THE LAW: the depth behind a text of the shape
 pub inside : {sh : Shape} {t : List ℕ} → In sh t → (d : ℕ) (s : List ℕ) → Reach (deep d sh) (close d (t ++ s)) t s
-inside (the {l = l}) d s = lit-ok l d s
-inside (all {C = C} {t = t} h) d s = run-reach C t h d s
+inside (the {l = l}) d s = lit_ok l d s
+inside (all {C = C} {t = t} h) d s = run_reach C t h d s
 inside (left {a = a} {b = b} {t = t} i) d s = agree_left (deep d a) (deep d b) (close d (t ++ s)) t s (inside i d s)
 inside (right {a = a} {b = b} {t = t} i) d s = agree_right (deep d a) (deep d b) (close d (t ++ s)) t s (inside i d s)
 inside (both {a = a} {b = b} {u = u} {v = v} i j) d s =
@@ -114,8 +114,8 @@ zeroth (some d) = eqb d 0
 abbrev pub level : Shape → Bool
 level sh = zeroth (deep 0 sh)
 
-pub enclosed-by : {sh : Shape} {t : List ℕ} → In sh t → T (level sh) → (s : List ℕ) → close 0 (t ++ (62 ∷ s)) ≡ at t s
-enclosed-by {sh} {t} i h s = go (deep 0 sh) h (inside i 0 (62 ∷ s)) ∙ pushes-at t [] s ∙ ap (λ (a : List ℕ). at a s) (append-nil t)
+pub enclosed_by : {sh : Shape} {t : List ℕ} → In sh t → T (level sh) → (s : List ℕ) → close 0 (t ++ (62 ∷ s)) ≡ at t s
+enclosed_by {sh} {t} i h s = go (deep 0 sh) h (inside i 0 (62 ∷ s)) ∙ pushes_at t [] s ∙ ap (λ (a : List ℕ). at a s) (append-nil t)
   where
     go : (o : Option ℕ) → T (zeroth o) → Reach o (close 0 (t ++ (62 ∷ s))) t (62 ∷ s) → close 0 (t ++ (62 ∷ s)) ≡ pushes t (at [] s)
     go none h r = absurd h

@@ -7,11 +7,11 @@ use mathlib.Core.Option.{some}
 use mathlib.Core.Path.{◌≡◌, refl}
 use lib.Dec.{T, ltb→lt}
 use lib.ListN.{length}
-use Rattle.scalars.specs.Names.{scalar-name}
+use Rattle.scalars.specs.Names.{scalar_name}
 use Rattle.scalars.specs.declared.scalar.Scalar.{Scalar}
 use Rattle.scalars.specs.declared.scalar.Scalar.TheVariants.{I1}
-use Rattle.grammar.specs.Tests.{every, every-nth}
-use Rattle.meaning.specs.Strict.{nth, words, scalars, Name, word, scalarOf}
+use Rattle.grammar.specs.Tests.{every, every_nth}
+use Rattle.meaning.specs.Strict.{nth, words, scalars, Name, word, scalar_of}
 
 pub table : {B : Type 0} (f : List ℕ → B) (g : Scalar → B) (ws : List (List ℕ)) (ss : List Scalar) → map f ws ≡ map g ss →
     (i : ℕ) → i < length ws → f (nth [] ws i) ≡ g (nth I1 ss i)
@@ -20,10 +20,10 @@ table f g (w ∷ ws) [] e i h = cc
 table f g (w ∷ ws) (s ∷ ss) e zero h = cc
 table f g (w ∷ ws) (s ∷ ss) e (suc i) h = table f g ws ss (cc) i (le_of_suc-le-suc h)
 
-pub name-word : (n : Name) → scalar-name (word n) ≡ some (scalarOf n)
-unfolding scalar-name
-name-word n = table scalar-name some words scalars refl n.index (ltb→lt n.index 22 n.within)
+pub name_word : (n : Name) → scalar_name (word n) ≡ some (scalar_of n)
+unfolding scalar_name
+name_word n = table scalar_name some words scalars refl n.index (ltb→lt n.index 22 n.within)
 
 -- a test that each spelling passes, computed once
-pub word-class : (C : ℕ → Bool) → T (every (every C) words) → (n : Name) → T (every C (word n))
-word-class C h n = every-nth (every C) [] tt words h n.index
+pub word_class : (C : ℕ → Bool) → T (every (every C) words) → (n : Name) → T (every C (word n))
+word_class C h n = every_nth (every C) [] tt words h n.index

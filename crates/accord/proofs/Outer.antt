@@ -10,8 +10,8 @@ use lib.IntN.{ℤ, pos}
 use Rattle.lexis.specs.Text.{bytes, cut, Cut, at, until, if◌then◌else◌}
 use Rattle.meaning.specs.Decimal.{decimal, in32}
 use Rattle.meaning.specs.Strict as Form
-use Rattle.meaning.specs.Strict.{◌⊕◌, comma, Commas, commas, values, entries, entriesOf}
-use Rattle.meaning.specs.Meant.{eachOf, tensorOk, viewOk, padsOf}
+use Rattle.meaning.specs.Strict.{◌⊕◌, comma, Commas, commas, values, entries, entries_of}
+use Rattle.meaning.specs.Meant.{each_of, tensor_ok, view_ok, meant_pads}
 use Rattle.meaning.specs.Parts.{each, up_to, between}
 use Rattle.meaning.specs.Found.{Entry, Clause, stands, unused}
 use Rattle.meaning.specs.Tile.{Tensor, tensor}
@@ -19,13 +19,13 @@ use Rattle.meaning.specs.Views as W
 use Rattle.meaning.specs.declared.Kind.TheVariants as K
 use Rattle.grammar.specs.Tests.{every, and_left, and_right}
 use Rattle.accord.proofs.Shape.{Shape, In, lit, absent, first}
-use Rattle.accord.proofs.Bracket.{apart, enclosed-by}
-use Rattle.accord.proofs.Num.{figure, decimal-figure}
-use Rattle.accord.proofs.Lists.{exact, entries-parts, list_read, small-decimal}
-use Rattle.accord.proofs.Forms.{◌▸◌, say, entries-in, list-in, comma-in, comma-shape, body, body-in, body-shape, pad-shape, pad-in, intro-in, intro-shape}
-use Rattle.accord.proofs.Forms.{middle, end, Of, no-travel, travel-of, map_of, sparse_of, Sight, whole, whole_in, tile-shape, inside}
-use Rattle.accord.proofs.Inner.{tensor-found, tensor-read}
-use Rattle.accord.proofs.Cases.{Ahead, first-at, last, ◌⊳◌, tiled, pad-reads}
+use Rattle.accord.proofs.Bracket.{apart, enclosed_by}
+use Rattle.accord.proofs.Num.{figure, decimal_figure}
+use Rattle.accord.proofs.Lists.{exact, entries_parts, list_read, small_decimal}
+use Rattle.accord.proofs.Forms.{◌▸◌, say, entries_in, list_in, comma_in, comma_shape, body, body_in, body_shape, pad_shape, pad_in, intro_in, intro_shape}
+use Rattle.accord.proofs.Forms.{middle, end, Of, no_travel, travel_of, map_of, sparse_of, Sight, whole, whole_in, tile_shape, inside}
+use Rattle.accord.proofs.Inner.{tensor_found, tensor_read}
+use Rattle.accord.proofs.Cases.{Ahead, first_at, last, ◌⊳◌, tiled, pad_reads}
 
 -- ── where the tensor view opens ──
 module _ (w : Sight) where
@@ -36,114 +36,114 @@ module _ (w : Sight) where
   abbrev onward : List ℕ → List ℕ → List ℕ
   onward tp ti = comma w.view.space ⊕ w.middle.text ⊕ tp ⊕ ti ⊕ bytes "tensor_view<" ⊕ beyond
 
-  start : (i : Form.Intro) {tp : List ℕ} → In pad-shape tp → W.opened (whole w tp (Form.introText i) []) (onward tp (Form.introText i)) ≡ some beyond
+  start : (i : Form.Intro) {tp : List ℕ} → In pad_shape tp → W.opened (whole w tp (Form.intro_text i) []) (onward tp (Form.intro_text i)) ≡ some beyond
   unfolding W.opened
   start Form.bare ip = λ j.
       W.◌or◌ (absent (bytes "tensor_view=!cuda_tile.tensor_view<") (whole_in w ip (say [])) tt j)
       (W.◌or◌ (absent (bytes "!cuda_tile.tensor_view<") (whole_in w ip (say [])) tt j)
-      (W.◌or◌ (first-at (bytes "tensor_view<") beyond (comma-in w.view.space ⊳ w.middle.is ⊳ last ip) tt j) none))
+      (W.◌or◌ (first_at (bytes "tensor_view<") beyond (comma_in w.view.space ⊳ w.middle.is ⊳ last ip) tt j) none))
   start Form.prefixed {tp} ip = λ j.
       W.◌or◌ (absent (bytes "tensor_view=!cuda_tile.tensor_view<") (whole_in w ip (say (bytes "!cuda_tile."))) tt j)
-      (W.◌or◌ (first-at (bytes "!cuda_tile.tensor_view<") beyond (tiled w (last ip)) tt j)
+      (W.◌or◌ (first_at (bytes "!cuda_tile.tensor_view<") beyond (tiled w (last ip)) tt j)
       (W.◌or◌ (cut (bytes "tensor_view<") (onward tp (bytes "!cuda_tile."))) none))
   start Form.named {tp} ip = λ j.
-      W.◌or◌ (first-at (bytes "tensor_view=!cuda_tile.tensor_view<") beyond (tiled w (last ip)) tt j)
-      (W.◌or◌ (cut (bytes "!cuda_tile.tensor_view<") (whole w tp (Form.introText Form.named) []))
-      (W.◌or◌ (cut (bytes "tensor_view<") (onward tp (Form.introText Form.named))) none))
+      W.◌or◌ (first_at (bytes "tensor_view=!cuda_tile.tensor_view<") beyond (tiled w (last ip)) tt j)
+      (W.◌or◌ (cut (bytes "!cuda_tile.tensor_view<") (whole w tp (Form.intro_text Form.named) []))
+      (W.◌or◌ (cut (bytes "tensor_view<") (onward tp (Form.intro_text Form.named))) none))
 
 -- ── what the three share ──
-abbrev pub view-found : Form.View → W.View
-view-found v = record { tile = exact (entriesOf v.tile); tensor = tensor-found v.tensor; padding = padsOf v.padding }
+abbrev pub view_found : Form.View → W.View
+view_found v = record { tile = exact (entries_of v.tile); tensor = tensor_found v.tensor; padding = meant_pads v.padding }
 
-module _ (w : Sight) (h : T (viewOk w.view)) where
+module _ (w : Sight) (h : T (view_ok w.view)) where
   abbrev v : Form.View
   v = w.view
 
-  inner-read : W.inner-by (W.opened (inside w []) (onward w (Form.padText v.padding) (Form.introText v.intro))) ≡ some (tensor-found v.tensor)
-  inner-read =
-      ap W.inner-by (start w v.intro (pad-in v.padding))
-      ∙ ap (λ (k : Cut). tensor (W.enclosed k)) (enclosed-by (body-in v.tensor) tt (comma v.space' ⊕ w.end.text))
-      ∙ tensor-read v.tensor (and_right (eachOf in32 (entriesOf v.tile)) (tensorOk v.tensor.shape v.tensor.strides) h)
+  inner_read : W.inner_by (W.opened (inside w []) (onward w (Form.pad_text v.padding) (Form.intro_text v.intro))) ≡ some (tensor_found v.tensor)
+  inner_read =
+      ap W.inner_by (start w v.intro (pad_in v.padding))
+      ∙ ap (λ (k : Cut). tensor (W.enclosed k)) (enclosed_by (body_in v.tensor) tt (comma v.space' ⊕ w.end.text))
+      ∙ tensor_read v.tensor (and_right (each_of in32 (entries_of v.tile)) (tensor_ok v.tensor.shape v.tensor.strides) h)
 
-  tile-cut : between (bytes "tile=(") (bytes ")") (inside w []) ≡ at (entries v.tile) (onward w (Form.padText v.padding) (Form.introText v.intro))
-  tile-cut =
-      ap (up_to (bytes ")")) (first (bytes "tile=(") (say []) tt (entries v.tile ⊕ bytes ")" ⊕ onward w (Form.padText v.padding) (Form.introText v.intro)))
-      ∙ first (bytes ")") (entries-in v.tile) tt (onward w (Form.padText v.padding) (Form.introText v.intro))
+  tile_cut : between (bytes "tile=(") (bytes ")") (inside w []) ≡ at (entries v.tile) (onward w (Form.pad_text v.padding) (Form.intro_text v.intro))
+  tile_cut =
+      ap (up_to (bytes ")")) (first (bytes "tile=(") (say []) tt (entries v.tile ⊕ bytes ")" ⊕ onward w (Form.pad_text v.padding) (Form.intro_text v.intro)))
+      ∙ first (bytes ")") (entries_in v.tile) tt (onward w (Form.pad_text v.padding) (Form.intro_text v.intro))
 
-  view-read : W.view (inside w []) ≡ some (view-found v)
+  view_read : W.view (inside w []) ≡ some (view_found v)
   unfolding W.view
-  view-read =
-      ap (W.view-by (inside w [])) tile-cut
+  view_read =
+      ap (W.view_by (inside w [])) tile_cut
       ∙ (λ i. each (λ (u : Tensor). record {
-        tile = entries-parts v.tile (and_left (eachOf in32 (entriesOf v.tile)) (tensorOk v.tensor.shape v.tensor.strides) h) i;
+        tile = entries_parts v.tile (and_left (each_of in32 (entries_of v.tile)) (tensor_ok v.tensor.shape v.tensor.strides) h) i;
         tensor = u;
-        padding = pad-reads w (intro-in v.intro) v.padding i;
-      }) (inner-read i))
+        padding = pad_reads w (intro_in v.intro) v.padding i;
+      }) (inner_read i))
 
 -- ── the lists ──
 -- what stands before the last clause
-abbrev front-shape : Shape
-front-shape = tile-shape (pad-shape ▸ intro-shape ▸ lit (bytes "tensor_view<") ▸ body-shape ▸ lit (bytes ">") ▸ comma-shape)
+abbrev front_shape : Shape
+front_shape = tile_shape (pad_shape ▸ intro_shape ▸ lit (bytes "tensor_view<") ▸ body_shape ▸ lit (bytes ">") ▸ comma_shape)
 
-clause-ahead : (w : Sight) → Ahead front-shape (inside w []) w.end.text
-clause-ahead w = tiled w (pad-in w.view.padding ⊳ intro-in w.view.intro ⊳ say (bytes "tensor_view<") ⊳ body-in w.view.tensor ⊳ say (bytes ">") ⊳ last (comma-in w.view.space'))
+clause_ahead : (w : Sight) → Ahead front_shape (inside w []) w.end.text
+clause_ahead w = tiled w (pad_in w.view.padding ⊳ intro_in w.view.intro ⊳ say (bytes "tensor_view<") ⊳ body_in w.view.tensor ⊳ say (bytes ">") ⊳ last (comma_in w.view.space'))
 
 -- what is made of them
-given-read : (c : Commas ℤ) → T (eachOf in32 (values c)) → W.entries (commas decimal c) ≡ stands (exact (values c))
+given_read : (c : Commas ℤ) → T (each_of in32 (values c)) → W.entries (commas decimal c) ≡ stands (exact (values c))
 unfolding W.entries
-given-read c h = ap stands (list_read c h)
+given_read c h = ap stands (list_read c h)
 
 -- a class without the end bytes
-until-all : (C D : ℕ → Bool) → ((c : ℕ) → T (C c) → D c ≡ false) → (t : List ℕ) → T (every C t) → until D t ≡ t
-until-all C D f [] h = refl
-until-all C D f (c ∷ t) h =
-    ap (λ (k : Bool). if k then [] else c ∷ until D t) (f c (and_left (C c) (every C t) h)) ∙ ap (λ (l : List ℕ). c ∷ l) (until-all C D f t (and_right (C c) (every C t) h))
+until_all : (C D : ℕ → Bool) → ((c : ℕ) → T (C c) → D c ≡ false) → (t : List ℕ) → T (every C t) → until D t ≡ t
+until_all C D f [] h = refl
+until_all C D f (c ∷ t) h =
+    ap (λ (k : Bool). if k then [] else c ∷ until D t) (f c (and_left (C c) (every C t) h)) ∙ ap (λ (l : List ℕ). c ∷ l) (until_all C D f t (and_right (C c) (every C t) h))
 
-sparse-not : (c : ℕ) → T (figure c) → W.ends-sparse c ≡ false
-sparse-not c h = ap (λ (k : Bool). k || eqb c 62) (apart figure 44 c tt h) ∙ apart figure 62 c tt h
+sparse_not : (c : ℕ) → T (figure c) → W.ends_sparse c ≡ false
+sparse_not c h = ap (λ (k : Bool). k || eqb c 62) (apart figure 44 c tt h) ∙ apart figure 62 c tt h
 
 module _ (v : Form.View) where
   abbrev pub with : Of middle → Of end → Sight
   with m e = record { view = v; middle = m; end = e }
 
-  map_read : (m : Of middle) (c : Commas ℤ) → W.list-after (bytes "dim_map=[") (inside (with m (map_of c)) []) ≡ W.listed (commas decimal c)
+  map_read : (m : Of middle) (c : Commas ℤ) → W.list_after (bytes "dim_map=[") (inside (with m (map_of c)) []) ≡ W.listed (commas decimal c)
   map_read m c =
-      ap W.list-by (first-at (bytes "dim_map=[") (commas decimal c ⊕ bytes "]") (clause-ahead (with m (map_of c))) tt)
-      ∙ ap W.closed (first (bytes "]") (list-in c) tt [])
+      ap W.list_by (first_at (bytes "dim_map=[") (commas decimal c ⊕ bytes "]") (clause_ahead (with m (map_of c))) tt)
+      ∙ ap W.closed (first (bytes "]") (list_in c) tt [])
 
-  sparse-read : (z : ℤ) → T (in32 z) → W.sparse-by (cut (bytes "sparse_dim=") (inside (with no-travel (sparse_of z)) [])) ≡ stands (exact (z ∷ []))
-  sparse-read z h =
-      ap W.sparse-by (first-at (bytes "sparse_dim=") (decimal z) (clause-ahead (with no-travel (sparse_of z))) tt)
-      ∙ ap (λ (t : List ℕ). stands (W.small (pos 0) t ∷ [])) (until-all figure W.ends-sparse sparse-not (decimal z) (decimal-figure z))
-      ∙ ap (λ (e : Entry). stands (e ∷ [])) (small-decimal (pos 0) z h)
+  sparse_read : (z : ℤ) → T (in32 z) → W.sparse_by (cut (bytes "sparse_dim=") (inside (with no_travel (sparse_of z)) [])) ≡ stands (exact (z ∷ []))
+  sparse_read z h =
+      ap W.sparse_by (first_at (bytes "sparse_dim=") (decimal z) (clause_ahead (with no_travel (sparse_of z))) tt)
+      ∙ ap (λ (t : List ℕ). stands (W.small (pos 0) t ∷ [])) (until_all figure W.ends_sparse sparse_not (decimal z) (decimal_figure z))
+      ∙ ap (λ (e : Entry). stands (e ∷ [])) (small_decimal (pos 0) z h)
 
   -- the traversal strides stand right behind the tile
-  travel-read : (c : Commas ℤ) (b : Bool) (e : Of end) → W.list-after (bytes "traversal_strides=[") (inside (with (travel-of c b) e) []) ≡ W.listed (commas decimal c)
-  travel-read c b e =
-      let s = Form.padText v.padding ⊕ Form.introText v.intro ⊕ bytes "tensor_view<" ⊕ beyond (with (travel-of c b) e) in
-      ap (λ (t : List ℕ). W.list-after (bytes "traversal_strides=[") (bytes "tile=(" ⊕ entries v.tile ⊕ bytes ")" ⊕ comma v.space ⊕ bytes "traversal_strides=[" ⊕ t))
+  travel_read : (c : Commas ℤ) (b : Bool) (e : Of end) → W.list_after (bytes "traversal_strides=[") (inside (with (travel_of c b) e) []) ≡ W.listed (commas decimal c)
+  travel_read c b e =
+      let s = Form.pad_text v.padding ⊕ Form.intro_text v.intro ⊕ bytes "tensor_view<" ⊕ beyond (with (travel_of c b) e) in
+      ap (λ (t : List ℕ). W.list_after (bytes "traversal_strides=[") (bytes "tile=(" ⊕ entries v.tile ⊕ bytes ")" ⊕ comma v.space ⊕ bytes "traversal_strides=[" ⊕ t))
       (append_assoc (commas decimal c) (bytes "]" ⊕ comma b) s)
-      ∙ ap W.list-by (first-at (bytes "traversal_strides=[") (commas decimal c ⊕ bytes "]" ⊕ comma b ⊕ s)
-      (say (bytes "tile=(") ⊳ entries-in v.tile ⊳ say (bytes ")") ⊳ last (comma-in v.space)) tt)
-      ∙ ap W.closed (first (bytes "]") (list-in c) tt (comma b ++ s))
+      ∙ ap W.list_by (first_at (bytes "traversal_strides=[") (commas decimal c ⊕ bytes "]" ⊕ comma b ⊕ s)
+      (say (bytes "tile=(") ⊳ entries_in v.tile ⊳ say (bytes ")") ⊳ last (comma_in v.space)) tt)
+      ∙ ap W.closed (first (bytes "]") (list_in c) tt (comma b ++ s))
 
   -- ── the three ──
-  pub partition-read : (c : Commas ℤ) → T (viewOk v) → T (eachOf in32 (values c)) →
-      W.partition-view (inside (with no-travel (map_of c)) []) ≡ some (W.view-of K.Partition (stands (exact (values c))) unused unused (view-found v))
-  unfolding W.partition-view
-  partition-read c h k =
-      (λ i. W.partition-from (map_read no-travel c i) (view-read (with no-travel (map_of c)) h i))
-      ∙ ap (λ (m : Clause). some (W.view-of K.Partition m unused unused (view-found v))) (given-read c k)
+  pub partition_read : (c : Commas ℤ) → T (view_ok v) → T (each_of in32 (values c)) →
+      W.partition_view (inside (with no_travel (map_of c)) []) ≡ some (W.view_of K.Partition (stands (exact (values c))) unused unused (view_found v))
+  unfolding W.partition_view
+  partition_read c h k =
+      (λ i. W.partition_from (map_read no_travel c i) (view_read (with no_travel (map_of c)) h i))
+      ∙ ap (λ (m : Clause). some (W.view_of K.Partition m unused unused (view_found v))) (given_read c k)
 
-  pub gather-read : (z : ℤ) → T (viewOk v) → T (in32 z) →
-      W.gather-scatter-view (inside (with no-travel (sparse_of z)) []) ≡ some (W.view-of K.GatherScatter unused unused (stands (exact (z ∷ []))) (view-found v))
-  unfolding W.gather-scatter-view
-  gather-read z h k = λ i. each (W.view-of K.GatherScatter unused unused (sparse-read z k i)) (view-read (with no-travel (sparse_of z)) h i)
+  pub gather_read : (z : ℤ) → T (view_ok v) → T (in32 z) →
+      W.gather_scatter_view (inside (with no_travel (sparse_of z)) []) ≡ some (W.view_of K.GatherScatter unused unused (stands (exact (z ∷ []))) (view_found v))
+  unfolding W.gather_scatter_view
+  gather_read z h k = λ i. each (W.view_of K.GatherScatter unused unused (sparse_read z k i)) (view_read (with no_travel (sparse_of z)) h i)
 
-  pub strided-read : (c : Commas ℤ) (s : Bool) (d : Commas ℤ) → T (viewOk v) → T (eachOf in32 (values c)) → T (eachOf in32 (values d)) →
-      W.strided-view (inside (with (travel-of c s) (map_of d)) [])
-      ≡ some (W.view-of K.Strided (stands (exact (values d))) (stands (exact (values c))) unused (view-found v))
-  unfolding W.strided-view W.strided-of
-  strided-read c s d h k l =
-      (λ i. each (W.strided-of (map_read (travel-of c s) d i) (travel-read c s (map_of d) i)) (view-read (with (travel-of c s) (map_of d)) h i))
-      ∙ (λ i. some (W.view-of K.Strided (given-read d l i) (given-read c k i) unused (view-found v)))
+  pub strided_read : (c : Commas ℤ) (s : Bool) (d : Commas ℤ) → T (view_ok v) → T (each_of in32 (values c)) → T (each_of in32 (values d)) →
+      W.strided_view (inside (with (travel_of c s) (map_of d)) [])
+      ≡ some (W.view_of K.Strided (stands (exact (values d))) (stands (exact (values c))) unused (view_found v))
+  unfolding W.strided_view W.strided_of
+  strided_read c s d h k l =
+      (λ i. each (W.strided_of (map_read (travel_of c s) d i) (travel_read c s (map_of d) i)) (view_read (with (travel_of c s) (map_of d)) h i))
+      ∙ (λ i. some (W.view_of K.Strided (given_read d l i) (given_read c k i) unused (view_found v)))

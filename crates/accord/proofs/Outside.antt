@@ -5,9 +5,9 @@ use mathlib.Core.List.{List, [], ◌∷◌, ◌++◌, append_assoc}
 use mathlib.Core.Option.{Option, none, some}
 use mathlib.Core.Path.{◌≡◌, refl, subst, ap, ◌∙◌}
 use lib.Dec.{T}
-use Rattle.lexis.specs.Text.{bytes, white, less-trailing, unless-last, Cut}
+use Rattle.lexis.specs.Text.{bytes, white, less_trailing, unless_last, Cut}
 use Rattle.meaning.specs.Strict.{◌⊕◌, may, cuda}
-use Rattle.meaning.specs.Parts.{each, content, content-by}
+use Rattle.meaning.specs.Parts.{each, content, content_by}
 use Rattle.meaning.specs.Found.{Found}
 use Rattle.meaning.specs.Tile as Tile
 use Rattle.meaning.specs.Views as W
@@ -15,9 +15,9 @@ use Rattle.meaning.specs.Ordinary as O
 use Rattle.meaning.specs.Ordinary.{forms, unmarked, parse}
 use Rattle.grammar.specs.Tests.{and_left, and_right}
 use Rattle.accord.proofs.Shape.{Shape, In, lit, alt, left, right, the}
-use Rattle.accord.proofs.Bracket.{enclosed-by, level}
+use Rattle.accord.proofs.Bracket.{enclosed_by, level}
 use Rattle.accord.proofs.Forms.{◌▸◌, say}
-use Rattle.accord.proofs.Hole.{Hole, ◌◂◌, inside, hole-in, theMark, attach, Trimmed, fit, reads}
+use Rattle.accord.proofs.Hole.{Hole, ◌◂◌, inside, hole_in, the_mark, attach, Trimmed, fit, reads}
 
 pub data Bracketed : Type 0 where
   tile tensor pointer partition gather strided : Bracketed
@@ -32,37 +32,37 @@ opening strided = bytes "strided_view<"
 
 abbrev pub reading : Bracketed → List ℕ → Option Found
 reading tile = Tile.tile
-reading tensor = Tile.tensor-view
+reading tensor = Tile.tensor_view
 reading pointer = O.pointer
-reading partition = W.partition-view
-reading gather = W.gather-scatter-view
-reading strided = W.strided-view
+reading partition = W.partition_view
+reading gather = W.gather_scatter_view
+reading strided = W.strided_view
 
 -- a form that applies decides
 abbrev decide : Option (List ℕ) → (List ℕ → Option Found) → Option Found → Option Found
 decide c f o = elim c as (λ _. Option Found) [ some t ↦ f t | none ↦ o ]
 
 applies : {sh : Shape} {t : List ℕ} (o : Option Found) (f : List ℕ → Option Found) → In sh t → T (level sh) → decide (content (t ++ bytes ">")) f o ≡ f t
-applies {t = t} o f i h = ap (λ (k : Cut). decide (content-by (t ++ bytes ">") k) f o) (enclosed-by i h [])
+applies {t = t} o f i h = ap (λ (k : Cut). decide (content_by (t ++ bytes ">") k) f o) (enclosed_by i h [])
 
 dispatch : (b : Bool) (f : Bracketed) {sh : Shape} {t : List ℕ} → In sh t → T (level sh) → unmarked (cuda b ⊕ opening f ⊕ t ⊕ bytes ">") ≡ reading f t
 unfolding unmarked forms
 dispatch true tile i h = applies _ Tile.tile i h
-dispatch true tensor i h = applies _ Tile.tensor-view i h
+dispatch true tensor i h = applies _ Tile.tensor_view i h
 dispatch true pointer i h = applies _ O.pointer i h
-dispatch true partition i h = applies _ W.partition-view i h
-dispatch true gather i h = applies _ W.gather-scatter-view i h
-dispatch true strided i h = applies _ W.strided-view i h
+dispatch true partition i h = applies _ W.partition_view i h
+dispatch true gather i h = applies _ W.gather_scatter_view i h
+dispatch true strided i h = applies _ W.strided_view i h
 dispatch false tile i h = applies _ Tile.tile i h
-dispatch false tensor i h = applies _ Tile.tensor-view i h
+dispatch false tensor i h = applies _ Tile.tensor_view i h
 dispatch false pointer i h = applies _ O.pointer i h
-dispatch false partition i h = applies _ W.partition-view i h
-dispatch false gather i h = applies _ W.gather-scatter-view i h
-dispatch false strided i h = applies _ W.strided-view i h
+dispatch false partition i h = applies _ W.partition_view i h
+dispatch false gather i h = applies _ W.gather_scatter_view i h
+dispatch false strided i h = applies _ W.strided_view i h
 
 -- ── nothing is to trim ──
 -- what is trimmed at its end is trimmed
-begun : (b : Bool) (f : Bracketed) (s : List ℕ) → less-trailing white (cuda b ⊕ opening f ⊕ s) ≡ cuda b ⊕ opening f ⊕ s → Trimmed (cuda b ⊕ opening f ⊕ s)
+begun : (b : Bool) (f : Bracketed) (s : List ℕ) → less_trailing white (cuda b ⊕ opening f ⊕ s) ≡ cuda b ⊕ opening f ⊕ s → Trimmed (cuda b ⊕ opening f ⊕ s)
 begun true f s e = record { same = e; some = tt }
 begun false tile s e = record { same = e; some = tt }
 begun false tensor s e = record { same = e; some = tt }
@@ -71,16 +71,16 @@ begun false partition s e = record { same = e; some = tt }
 begun false gather s e = record { same = e; some = tt }
 begun false strided s e = record { same = e; some = tt }
 
-ended : (t : List ℕ) → less-trailing white (t ++ bytes ">") ≡ t ++ bytes ">"
+ended : (t : List ℕ) → less_trailing white (t ++ bytes ">") ≡ t ++ bytes ">"
 ended [] = refl
-ended (c ∷ t) = ap (unless-last white c) (ended t) ∙ by t
+ended (c ∷ t) = ap (unless_last white c) (ended t) ∙ by t
   where
-    by : (t : List ℕ) → unless-last white c (t ++ bytes ">") ≡ c ∷ (t ++ bytes ">")
+    by : (t : List ℕ) → unless_last white c (t ++ bytes ">") ≡ c ∷ (t ++ bytes ">")
     by [] = refl
     by (d ∷ t) = refl
 
 trimmed : (b : Bool) (f : Bracketed) (t : List ℕ) → Trimmed (cuda b ⊕ opening f ⊕ t ⊕ bytes ">")
-trimmed b f t = begun b f (t ⊕ bytes ">") (subst (λ (s : List ℕ). less-trailing white s ≡ s)
+trimmed b f t = begun b f (t ⊕ bytes ">") (subst (λ (s : List ℕ). less_trailing white s ≡ s)
     (append_assoc (cuda b ++ opening f) t (bytes ">") ∙ append_assoc (cuda b) (opening f) (t ++ bytes ">")) (ended ((cuda b ++ opening f) ++ t)))
 
 -- ── the law ──
@@ -103,6 +103,6 @@ module _ (f : Bracketed) {a c : Shape} {g : List ℕ → List ℕ} (h : Hole a c
   front i = i ◂ inside h (say (bytes ">"))
 
   -- THE LAW: the content is read by the form's own reader, and the mark is its attribute
-  pub bracketed : (b m : Bool) → parse (cuda b ⊕ opening f ⊕ g (may m theMark) ⊕ bytes ">") ≡ each (attach m) (reading f (g []))
-  bracketed true m = reads (front {o = bytes "!cuda_tile." ⊕ opening f} (left the)) t1 (λ r. trimmed true f (g r)) m ∙ ap (each (attach m)) (dispatch true f (hole-in h) t2)
-  bracketed false m = reads (front {o = opening f} (right the)) t1 (λ r. trimmed false f (g r)) m ∙ ap (each (attach m)) (dispatch false f (hole-in h) t2)
+  pub bracketed : (b m : Bool) → parse (cuda b ⊕ opening f ⊕ g (may m the_mark) ⊕ bytes ">") ≡ each (attach m) (reading f (g []))
+  bracketed true m = reads (front {o = bytes "!cuda_tile." ⊕ opening f} (left the)) t1 (λ r. trimmed true f (g r)) m ∙ ap (each (attach m)) (dispatch true f (hole_in h) t2)
+  bracketed false m = reads (front {o = opening f} (right the)) t1 (λ r. trimmed false f (g r)) m ∙ ap (each (attach m)) (dispatch false f (hole_in h) t2)

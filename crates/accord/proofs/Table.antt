@@ -1,5 +1,5 @@
 -- The rows of document 01, whole: each text with what the ordinary reader, the strict reader and the writer answer. One table, one theorem:
--- the three columns are computed by the checker, and the strict one is turned into the definition by `answer-right`.
+-- the three columns are computed by the checker, and the strict one is turned into the definition by `answer_right`.
 use Prim.Native.Nat.{ℕ}
 use Prim.Native.String.{String}
 use mathlib.Core.Bool.{false}
@@ -19,13 +19,13 @@ use Rattle.meaning.specs.declared.Reading.{Reading}
 use Rattle.meaning.specs.declared.Refusal.TheVariants.{Accepted, NotStrict, TooMany, NoType, NoText}
 use Rattle.meaning.specs.Refusals.{number}
 use Rattle.meaning.specs.Ordinary.{ordinary}
-use Rattle.meaning.specs.Meant.{Strictly, fits, flat-any, taken}
-use Rattle.meaning.specs.Normal.{lists-clear, rest-blank, normal}
+use Rattle.meaning.specs.Meant.{Strictly, fits, flat_any, taken}
+use Rattle.meaning.specs.Normal.{lists_clear, rest_blank, normal}
 use Rattle.meaning.specs.Written as W
 use Rattle.meaning.proofs.Open.{reading}
 use Rattle.meaning.proofs.Answers.{Row, row, type, refused, DYN}
 use Rattle.meaning.proofs.Rows.{rows}
-use Rattle.grammar.proofs.Answer.{answer, answer-right}
+use Rattle.grammar.proofs.Answer.{answer, answer_right}
 
 -- ── the columns ──
 pub data Writes : Type 0 where
@@ -52,8 +52,8 @@ abbrev eight : Reading
 eight = type K.Tile F32 false false (L.map (λ (k : ℕ). pos 1) (replicate 8 0)) [] [] [] [] (pos 0) Absent 0 0 0 0
 
 -- the rows marked P, in document 01's order, then those that are not
-abbrev pub all-rows : List Row
-all-rows = rows ++ (row "tile<1x1x1x1x1x1x1x1xf32>" eight ∷ row "tile<1x1x1x1x1x1x1x1x1xf32>" (refused TooMany 0) ∷ row "" (refused NoType 0) ∷ [])
+abbrev pub all_rows : List Row
+all_rows = rows ++ (row "tile<1x1x1x1x1x1x1x1xf32>" eight ∷ row "tile<1x1x1x1x1x1x1x1x1xf32>" (refused TooMany 0) ∷ row "" (refused NoType 0) ∷ [])
 
 abbrev pub columns : List Columns
 columns =
@@ -129,15 +129,15 @@ by_lines (r ∷ rs) [] l e = let f : ⊥ = omega arith in f
 by_lines (r ∷ rs) (c ∷ cs) l e = let h = ap (first (worked r)) e in (
   record {
     ordinary = ap (λ (x : Line). x.ordinary) h;
-    strict = subst (Strictly 8 1024 (bytes r.text)) (ap (λ (x : Line). x.strict) h) (answer-right 8 1024 (bytes r.text));
+    strict = subst (Strictly 8 1024 (bytes r.text)) (ap (λ (x : Line). x.strict) h) (answer_right 8 1024 (bytes r.text));
     written = ap (λ (x : Line). x.written) h;
   },
   by_lines rs cs (omega arith) (ap rest e),
 )
 
-lines : L.map worked all-rows ≡ expected all-rows columns
-unfolding reading answer fits flat-any taken lists-clear rest-blank normal W.written W.writing
+lines : L.map worked all_rows ≡ expected all_rows columns
+unfolding reading answer fits flat_any taken lists_clear rest_blank normal W.written W.writing
 lines = refl
 
-pub rows-hold : Hold all-rows columns
-rows-hold = by_lines all-rows columns refl lines
+pub rows_hold : Hold all_rows columns
+rows_hold = by_lines all_rows columns refl lines

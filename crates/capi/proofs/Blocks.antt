@@ -13,7 +13,7 @@ use Rattle.lexis.specs.Text.{Text, if◌then◌else◌}
 use Rattle.meaning.specs.Ordinary.{refused}
 use Rattle.meaning.specs.Refusals as R
 use Rattle.meaning.specs.declared.Refusal.TheVariants.{NotNormal}
-use Rattle.numbers.specs.Numbers.{in-numbers}
+use Rattle.numbers.specs.Numbers.{in_numbers}
 use Rattle.meaning.specs.declared.Reading.{Reading}
 use Rattle.collector.specs.declared.Collector.{Collector}
 use Rattle.collector.specs.declared.Fed.{Fed}
@@ -22,11 +22,11 @@ use Rattle.collector.specs.Parts.{of_parts}
 use Rattle.collector.proofs.Order as L
 use Rattle.collector.proofs.Pieces as P
 use Rattle.collector.proofs.Refusing as S
-use Rattle.capi.specs.Block.{formed, of-block, last-bytes, to_block, lent, feed-number, fed-block, read-block, ended-block, Formed}
+use Rattle.capi.specs.Block.{formed, of_block, last_bytes, to_block, lent, feed_number, fed_block, read_block, ended_block, Formed}
 
 -- three bytes laid behind the first n
-pub laid-behind : (b : Text) (n x y z : ℕ) → length b ≡ n + 3 → set (set (set b n x) (suc n) y) (suc (suc n)) z ≡ take n b ++ x ∷ y ∷ z ∷ []
-laid-behind b n x y z l = sets-eq (x ∷ y ∷ z ∷ []) b n (omega arith)
+pub laid_behind : (b : Text) (n x y z : ℕ) → length b ≡ n + 3 → set (set (set b n x) (suc n) y) (suc (suc n)) z ≡ take n b ++ x ∷ y ∷ z ∷ []
+laid_behind b n x y z l = sets-eq (x ∷ y ∷ z ∷ []) b n (omega arith)
     ∙ ap (λ (d : Text). take n b ++ x ∷ y ∷ z ∷ [] ++ d) (drop_of_length-le b {i = n + 3} (omega arith)) ∙ append-nil (take n b ++ x ∷ y ∷ z ∷ [])
 
 both : (a b : Bool) → a && b ≡ true → (a ≡ true) × (b ≡ true)
@@ -44,37 +44,37 @@ module _ (size : ℕ) (b : Text) where
   pub wrong_size : (length b ≡ size + 3 → ⊥) → false ≡ formed size b
   wrong_size h = rw (ne_eqb (length b) (size + 3) h)
 
-  pub by-mark : length b ≡ size + 3 → leb (get_or b (size + 2) 0) 1 ≡ formed size b
-  by-mark h = rw (eq-eqb (length b) (size + 3) h)
+  pub by_mark : length b ≡ size + 3 → leb (get_or b (size + 2) 0) 1 ≡ formed size b
+  by_mark h = rw (eq-eqb (length b) (size + 3) h)
 
   pub unformed : formed size b ≡ false → lent size b ≡ none
   unfolding lent
   unformed e = rw e
 
-  pub feed-none : (p : Text) → formed size b ≡ false → (6 ≡ feed-number (lent size b)) × (b ≡ fed-block size b p (lent size b))
-  feed-none p e = rw (unformed e) (refl, refl)
+  pub feed_none : (p : Text) → formed size b ≡ false → (6 ≡ feed_number (lent size b)) × (b ≡ fed_block size b p (lent size b))
+  feed_none p e = rw (unformed e) (refl, refl)
 
-  pub end_none : (r : Reading) → formed size b ≡ false → r ≡ refused 8 NotNormal 0 → (in-numbers r ≡ in-numbers (read-block 8 size (lent size b))) × (b ≡ ended-block size b (lent size b))
-  end_none r e g = rw (unformed e) (ap in-numbers g, refl)
+  pub end_none : (r : Reading) → formed size b ≡ false → r ≡ refused 8 NotNormal 0 → (in_numbers r ≡ in_numbers (read_block 8 size (lent size b))) × (b ≡ ended_block size b (lent size b))
+  end_none r e g = rw (unformed e) (ap in_numbers g, refl)
 
-  not-lent : formed size b ≡ true → in_order size (of-block size b) ≡ false → lent size b ≡ none
+  not_lent : formed size b ≡ true → in_order size (of_block size b) ≡ false → lent size b ≡ none
   unfolding lent
-  not-lent f e = rw (f, e)
+  not_lent f e = rw (f, e)
 
-  is-lent : formed size b ≡ true → in_order size (of-block size b) ≡ true → lent size b ≡ some (of-block size b)
+  is_lent : formed size b ≡ true → in_order size (of_block size b) ≡ true → lent size b ≡ some (of_block size b)
   unfolding lent
-  is-lent f e = rw (f, e)
+  is_lent f e = rw (f, e)
 
   module _ {n : ℕ} {o : Bool} (f : Formed size b n o) where
     abbrev c : Collector
     c = of_parts (take size b) n o
 
-    same : c ≡ of-block size b
+    same : c ≡ of_block size b
     same = λ i. of_parts (take size b) (f.len i) (f.over i)
 
     -- what is laid back
-    stored : (d : Collector) (t : Text) → length d.bytes ≡ size → t ≡ take size (d.bytes ++ drop size b) ++ last-bytes d.len d.over → t ≡ to_block d
-    stored d t l e = e ∙ ap (λ (x : Text). x ++ last-bytes d.len d.over) (take_at d.bytes (drop size b) size l)
+    stored : (d : Collector) (t : Text) → length d.bytes ≡ size → t ≡ take size (d.bytes ++ drop size b) ++ last_bytes d.len d.over → t ≡ to_block d
+    stored d t l e = e ∙ ap (λ (x : Text). x ++ last_bytes d.len d.over) (take_at d.bytes (drop size b) size l)
 
     pub ready : (d : Collector) → L.Ordered size d.bytes d.len d.over → (length (d.bytes ++ drop size b) ≡ size + 3) × (d.len ≤ size)
     ready d k =
@@ -87,44 +87,44 @@ module _ (size : ℕ) (b : Text) where
     kept : (d : Collector) → d ≡ c → d.bytes ++ drop size b ≡ b
     kept d e = ap (λ (x : Collector). x.bytes ++ drop size b) e ∙ take-append-drop size b
 
-    order : in_order size c ≡ in_order size (of-block size b)
+    order : in_order size c ≡ in_order size (of_block size b)
     order = ap (in_order size) same
 
     -- ── a piece ──
 
     module _ (p : Text) (v : Fed) (d : Collector) (g : (v ≡ told size c) × (d ≡ fed size c p)) where
-      pub feed-6 : number v ≡ 6 → (6 ≡ feed-number (lent size b)) × (d.bytes ++ drop size b ≡ fed-block size b p (lent size b))
-      feed-6 h =
-          let n = (S.piece-6 8 size c).0 (ap number (sym g.0) ∙ h) in
-          rw (not-lent f.form (sym order ∙ n)) (refl, kept d (g.1 ∙ S.piece-unaltered 8 size c n p))
+      pub feed_6 : number v ≡ 6 → (6 ≡ feed_number (lent size b)) × (d.bytes ++ drop size b ≡ fed_block size b p (lent size b))
+      feed_6 h =
+          let n = (S.piece_6 8 size c).0 (ap number (sym g.0) ∙ h) in
+          rw (not_lent f.form (sym order ∙ n)) (refl, kept d (g.1 ∙ S.piece_unaltered 8 size c n p))
 
       module _ (h : number v ≡ 6 → ⊥) where
         taken : in_order size c ≡ true
-        taken = sure (in_order size c) (λ e. h (ap number g.0 ∙ (S.piece-6 8 size c).1 e))
+        taken = sure (in_order size c) (λ e. h (ap number g.0 ∙ (S.piece_6 8 size c).1 e))
 
-        pub fed-order : L.Ordered size d.bytes d.len d.over
-        fed-order = L.ordered size d.bytes d.len d.over (ap (in_order size) g.1 ∙ P.fed-in-order size c p taken)
+        pub fed_order : L.Ordered size d.bytes d.len d.over
+        fed_order = L.ordered size d.bytes d.len d.over (ap (in_order size) g.1 ∙ P.fed_in_order size c p taken)
 
-        pub feed-0 : (t : Text) → t ≡ take size (d.bytes ++ drop size b) ++ last-bytes d.len d.over → (0 ≡ feed-number (lent size b)) × (t ≡ fed-block size b p (lent size b))
-        feed-0 t e = rw (is-lent f.form (sym order ∙ taken)) (refl, stored d t fed-order.full e ∙ ap to_block (g.1 ∙ ap (λ (x : Collector). fed size x p) same))
+        pub feed_0 : (t : Text) → t ≡ take size (d.bytes ++ drop size b) ++ last_bytes d.len d.over → (0 ≡ feed_number (lent size b)) × (t ≡ fed_block size b p (lent size b))
+        feed_0 t e = rw (is_lent f.form (sym order ∙ taken)) (refl, stored d t fed_order.full e ∙ ap to_block (g.1 ∙ ap (λ (x : Collector). fed size x p) same))
 
     -- ── the end ──
 
     module _ (r : Reading) (d : Collector) (g : (r ≡ answered 8 size c) × (d ≡ ended size c)) where
-      pub end-6 : R.number r.refusal ≡ 6 → (r ≡ read-block 8 size (lent size b)) × (d.bytes ++ drop size b ≡ ended-block size b (lent size b))
-      end-6 h =
-          let n = (S.end-6 8 size c).0 (ap (λ (x : Reading). R.number x.refusal) (sym g.0) ∙ h) in
-          rw (not-lent f.form (sym order ∙ n)) (g.0 ∙ S.end-6-blank 8 size c n, kept d (g.1 ∙ S.end-unaltered 8 size c n))
+      pub end_6 : R.number r.refusal ≡ 6 → (r ≡ read_block 8 size (lent size b)) × (d.bytes ++ drop size b ≡ ended_block size b (lent size b))
+      end_6 h =
+          let n = (S.end_6 8 size c).0 (ap (λ (x : Reading). R.number x.refusal) (sym g.0) ∙ h) in
+          rw (not_lent f.form (sym order ∙ n)) (g.0 ∙ S.end_6_blank 8 size c n, kept d (g.1 ∙ S.end_unaltered 8 size c n))
 
       module _ (h : R.number r.refusal ≡ 6 → ⊥) where
-        read-on : in_order size c ≡ true
-        read-on = sure (in_order size c) (λ e. h (ap (λ (x : Reading). R.number x.refusal) g.0 ∙ (S.end-6 8 size c).1 e))
+        read_on : in_order size c ≡ true
+        read_on = sure (in_order size c) (λ e. h (ap (λ (x : Reading). R.number x.refusal) g.0 ∙ (S.end_6 8 size c).1 e))
 
         emptied : d ≡ fresh size
-        emptied = g.1 ∙ sym (L.end_fresh 8 size c read-on)
+        emptied = g.1 ∙ sym (L.end_fresh 8 size c read_on)
 
-        pub end-order : L.Ordered size d.bytes d.len d.over
-        end-order = L.ordered size d.bytes d.len d.over (ap (in_order size) emptied ∙ P.fresh-in-order size)
+        pub end_order : L.Ordered size d.bytes d.len d.over
+        end_order = L.ordered size d.bytes d.len d.over (ap (in_order size) emptied ∙ P.fresh_in_order size)
 
-        pub end-0 : (t : Text) → t ≡ take size (d.bytes ++ drop size b) ++ last-bytes d.len d.over → (r ≡ read-block 8 size (lent size b)) × (t ≡ ended-block size b (lent size b))
-        end-0 t e = rw (is-lent f.form (sym order ∙ read-on)) (g.0 ∙ ap (answered 8 size) same, stored d t end-order.full e ∙ ap to_block emptied)
+        pub end_0 : (t : Text) → t ≡ take size (d.bytes ++ drop size b) ++ last_bytes d.len d.over → (r ≡ read_block 8 size (lent size b)) × (t ≡ ended_block size b (lent size b))
+        end_0 t e = rw (is_lent f.form (sym order ∙ read_on)) (g.0 ∙ ap (answered 8 size) same, stored d t end_order.full e ∙ ap to_block emptied)

@@ -10,16 +10,16 @@ use Rattle.meaning.specs.declared.Written.{Written}
 use Rattle.meaning.specs.Meant.{Strictly}
 use Rattle.meaning.specs.Written as W
 use Rattle.meaning.specs.Written.{writing}
-use Rattle.numbers.specs.Numbers.{in-numbers, of-numbers}
+use Rattle.numbers.specs.Numbers.{in_numbers, of_numbers}
 use Rattle.numbers.specs.declared.TypetextReading.{TypetextReading}
 use Rattle.numbers.specs.declared.TypetextRecord.{TypetextRecord}
 use Rattle.capi.specs.declared.write.TypetextWritten.{TypetextWritten}
 
 -- the strict reader's answer in numbers
-pub record Strict-numbers (s : Text) (n : TypetextReading) : Type 0 where
+pub record StrictNumbers (s : Text) (n : TypetextReading) : Type 0 where
   pub reading : Reading
   pub strictly : Strictly 8 1024 s reading
-  pub numbers : n ≡ in-numbers reading
+  pub numbers : n ≡ in_numbers reading
 
 -- ── the writer's answer, and the room after it ──
 
@@ -30,16 +30,16 @@ pub record Outcome : Type 0 where
 abbrev pub outcome : TypetextWritten → Text → Outcome
 outcome w room = record { answer = w; room = room }
 
-abbrev pub answer-numbers : Written → TypetextWritten
-answer-numbers w = record { len = w.len; refusal = number w.refusal }
+abbrev pub answer_numbers : Written → TypetextWritten
+answer_numbers w = record { len = w.len; refusal = number w.refusal }
 
-abbrev pub outcome-numbers : W.Outcome → Outcome
-outcome-numbers o = outcome (answer-numbers o.answer) o.room
+abbrev pub outcome_numbers : W.Outcome → Outcome
+outcome_numbers o = outcome (answer_numbers o.answer) o.room
 
 -- numbers that are no record's are refused as not normal
-abbrev pub write-given : Option Record → Text → W.Outcome
-write-given none room = W.refused NotNormal room
-write-given (some r) room = writing 8 r room
+abbrev pub write_given : Option Record → Text → W.Outcome
+write_given none room = W.refused NotNormal room
+write_given (some r) room = writing 8 r room
 
-unfoldable pub write-numbers : TypetextRecord → Text → Outcome
-write-numbers n room = outcome-numbers (write-given (of-numbers n) room)
+unfoldable pub write_numbers : TypetextRecord → Text → Outcome
+write_numbers n room = outcome_numbers (write_given (of_numbers n) room)

@@ -8,45 +8,45 @@ use Rattle.meaning.specs.declared.Reading.{Reading}
 use Rattle.meaning.specs.declared.Refusal.TheVariants.{NotNormal}
 use Rattle.collector.specs.declared.Collector.{Collector}
 use Rattle.collector.specs.Collecting.{in_order, fresh, fed, answered}
-use Rattle.numbers.specs.Numbers.{flag-number}
+use Rattle.numbers.specs.Numbers.{flag_number}
 
 -- a block of the right size, with a mark that is one
 abbrev pub formed : ℕ → Text → Bool
 formed size b = eqb (length b) (size + 3) && leb (get_or b (size + 2) 0) 1
 
-abbrev pub of-block : ℕ → Text → Collector
-of-block size b = record { bytes = take size b; len = get_or b size 0 * 256 + get_or b (size + 1) 0; over = eqb (get_or b (size + 2) 0) 1 }
+abbrev pub of_block : ℕ → Text → Collector
+of_block size b = record { bytes = take size b; len = get_or b size 0 * 256 + get_or b (size + 1) 0; over = eqb (get_or b (size + 2) 0) 1 }
 
-abbrev pub last-bytes : ℕ → Bool → Text
-last-bytes n o = (n / 256) ∷ (n % 256) ∷ flag-number o ∷ []
+abbrev pub last_bytes : ℕ → Bool → Text
+last_bytes n o = (n / 256) ∷ (n % 256) ∷ flag_number o ∷ []
 
 abbrev pub to_block : Collector → Text
-to_block c = c.bytes ++ last-bytes c.len c.over
+to_block c = c.bytes ++ last_bytes c.len c.over
 
 -- the collector in order that a block holds
 unfoldable pub lent : ℕ → Text → Option Collector
-lent size b = if formed size b && in_order size (of-block size b) then some (of-block size b) else none
+lent size b = if formed size b && in_order size (of_block size b) then some (of_block size b) else none
 
 -- a piece: 0; 6 for a block that holds no collector in order, which is unaltered
-abbrev pub feed-number : Option Collector → ℕ
-feed-number (some c) = 0
-feed-number none = 6
+abbrev pub feed_number : Option Collector → ℕ
+feed_number (some c) = 0
+feed_number none = 6
 
-abbrev pub fed-block : ℕ → Text → Text → Option Collector → Text
-fed-block size b piece (some c) = to_block (fed size c piece)
-fed-block size b piece none = b
+abbrev pub fed_block : ℕ → Text → Text → Option Collector → Text
+fed_block size b piece (some c) = to_block (fed size c piece)
+fed_block size b piece none = b
 
 -- the end
-abbrev pub read-block : ℕ → ℕ → Option Collector → Reading
-read-block cap size (some c) = answered cap size c
-read-block cap size none = refused cap NotNormal 0
+abbrev pub read_block : ℕ → ℕ → Option Collector → Reading
+read_block cap size (some c) = answered cap size c
+read_block cap size none = refused cap NotNormal 0
 
-abbrev pub ended-block : ℕ → Text → Option Collector → Text
-ended-block size b (some c) = to_block (fresh size)
-ended-block size b none = b
+abbrev pub ended_block : ℕ → Text → Option Collector → Text
+ended_block size b (some c) = to_block (fresh size)
+ended_block size b none = b
 
 -- for private contracts: number and mark of a block that has the form
 pub record Formed (size : ℕ) (b : Text) (n : ℕ) (o : Bool) : Type 0 where
   pub form : formed size b ≡ true
-  pub len : n ≡ (of-block size b).len
-  pub over : o ≡ (of-block size b).over
+  pub len : n ≡ (of_block size b).len
+  pub over : o ≡ (of_block size b).over

@@ -4,12 +4,12 @@ use Rattle.lexis.specs.Text.{Text}
 use Rattle.sheet.specs.Sheet.{number, answered}
 use Rattle.sheet.specs.declared.Cut.{Cut}
 use Rattle.sheet.specs.declared.sums.Totals.{Totals}
-use Rattle.numbers.specs.Numbers.{flag-number}
+use Rattle.numbers.specs.Numbers.{flag_number}
 use Rattle.capi.specs.declared.count.TypetextRow.{TypetextRow}
 use Rattle.capi.specs.declared.count.TypetextTotals.{TypetextTotals}
 
-unfoldable pub total-numbers : Totals → TypetextTotals
-total-numbers t = record {
+unfoldable pub total_numbers : Totals → TypetextTotals
+total_numbers t = record {
   rows = t.rows;
   accepted = t.accepted;
   refused_1 = t.refused_1;
@@ -24,15 +24,15 @@ total-numbers t = record {
 }
 
 -- 9 for a sheet over the limit, else 0
-abbrev pub sheet-number : Text → ℕ
-sheet-number s = number (answered 65536 s)
+abbrev pub sheet_number : Text → ℕ
+sheet_number s = number (answered 65536 s)
 
 -- where a row lies, beside the sheet's refusal
-unfoldable pub row-numbers : ℕ → Cut → TypetextRow
-row-numbers refusal c = record {
+unfoldable pub row_numbers : ℕ → Cut → TypetextRow
+row_numbers refusal c = record {
   first = c.first;
   end = c.end;
   next = c.next;
-  found = flag-number c.found;
+  found = flag_number c.found;
   refusal = refusal;
 }

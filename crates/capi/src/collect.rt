@@ -1,7 +1,7 @@
 // The collector's C face: the collector lies in a block of bytes that the caller lends (docs/ABI.md).
 ghost use Rattle.std.specs.Prelude.{◌+◌, ◌*◌, ◌≤◌, ◌++◌, ◌≡◌, length, take};
-ghost use Rattle.numbers.specs.Numbers.{in-numbers};
-ghost use Rattle.capi.specs.Block.{formed, Formed, last-bytes, lent, feed-number, fed-block, read-block, ended-block};
+ghost use Rattle.numbers.specs.Numbers.{in_numbers};
+ghost use Rattle.capi.specs.Block.{formed, Formed, last_bytes, lent, feed_number, fed_block, read_block, ended_block};
 
 use collector::SIZE;
 use meaning::{Reading, Refusal, refuse};
@@ -27,7 +27,7 @@ fn two_bytes(high: u8, low: u8) -> usize
 // Lays number and mark behind the bytes.
 fn store(block: &mut [u8], len: usize, over: bool)
     requires { (length block.old ≡ 1027) × (len ≤ 1024) }
-    ensures { block.new ≡ take 1024 block.old ++ last-bytes len over }
+    ensures { block.new ≡ take 1024 block.old ++ last_bytes len over }
 {
     block[SIZE] = (len / 256) as u8;
     block[SIZE + 1] = (len % 256) as u8;
@@ -37,8 +37,8 @@ fn store(block: &mut [u8], len: usize, over: bool)
 // A piece, for a block that has the form.
 fn feed_formed(block: &mut [u8], len: usize, over: bool, piece: &[u8]) -> u8
     requires { Formed 1024 block.old len over }
-    ensures { (result ≡ feed-number (lent 1024 block.old))
-        × (block.new ≡ fed-block 1024 block.old piece.now (lent 1024 block.old)) }
+    ensures { (result ≡ feed_number (lent 1024 block.old))
+        × (block.new ≡ fed_block 1024 block.old piece.now (lent 1024 block.old)) }
 {
     let mut n = len;
     let mut o = over;
@@ -53,8 +53,8 @@ fn feed_formed(block: &mut [u8], len: usize, over: bool, piece: &[u8]) -> u8
 // The end, for a block that has the form.
 fn end_formed(block: &mut [u8], len: usize, over: bool) -> Reading
     requires { Formed 1024 block.old len over }
-    ensures { (result ≡ read-block 8 1024 (lent 1024 block.old))
-        × (block.new ≡ ended-block 1024 block.old (lent 1024 block.old)) }
+    ensures { (result ≡ read_block 8 1024 (lent 1024 block.old))
+        × (block.new ≡ ended_block 1024 block.old (lent 1024 block.old)) }
 {
     let mut n = len;
     let mut o = over;
@@ -70,8 +70,8 @@ fn end_formed(block: &mut [u8], len: usize, over: bool) -> Reading
 // A piece: 0, or 6 and the block as it was. Any block and any piece get an answer.
 #[unsafe(no_mangle)]
 pub extern "C" fn typetext_feed(block: &mut [u8], piece: &[u8]) -> u8
-    ensures { (result ≡ feed-number (lent 1024 block.old))
-        × (block.new ≡ fed-block 1024 block.old piece.now (lent 1024 block.old)) }
+    ensures { (result ≡ feed_number (lent 1024 block.old))
+        × (block.new ≡ fed_block 1024 block.old piece.now (lent 1024 block.old)) }
 {
     if !formed(block) {
         return 6;
@@ -84,8 +84,8 @@ pub extern "C" fn typetext_feed(block: &mut [u8], piece: &[u8]) -> u8
 // The end: the ordinary reader's answer on the joined bytes, and a fresh block; or 6 and the block as it was.
 #[unsafe(no_mangle)]
 pub extern "C" fn typetext_end(block: &mut [u8]) -> TypetextReading
-    ensures { (result ≡ in-numbers (read-block 8 1024 (lent 1024 block.old)))
-        × (block.new ≡ ended-block 1024 block.old (lent 1024 block.old)) }
+    ensures { (result ≡ in_numbers (read_block 8 1024 (lent 1024 block.old)))
+        × (block.new ≡ ended_block 1024 block.old (lent 1024 block.old)) }
 {
     if !formed(block) {
         return in_numbers(refuse(Refusal::NotNormal, 0));

@@ -1,7 +1,7 @@
 // A sheet's C face: its totals, and where the next row lies (docs/ABI.md).
 ghost use Rattle.std.specs.Prelude.{◌≡◌};
 ghost use Rattle.sheet.specs.Sheet.{cut, totals};
-ghost use Rattle.capi.specs.Sheets.{sheet-number, total-numbers, row-numbers};
+ghost use Rattle.capi.specs.Sheets.{sheet_number, total_numbers, row_numbers};
 
 use sheet::{LIMIT, Totals};
 
@@ -34,7 +34,7 @@ pub struct TypetextRow {
 }
 
 fn total_numbers(t: Totals) -> TypetextTotals
-    ensures { result ≡ total-numbers t }
+    ensures { result ≡ total_numbers t }
 {
     let answer = t.answer;
     TypetextTotals {
@@ -54,7 +54,7 @@ fn total_numbers(t: Totals) -> TypetextTotals
 
 // The refusal of a sheet, whatever its rows.
 fn sheet_number(sheet: &[u8]) -> u8
-    ensures { result ≡ sheet-number sheet.now }
+    ensures { result ≡ sheet_number sheet.now }
 {
     if sheet.len() <= LIMIT { 0 } else { 9 }
 }
@@ -62,7 +62,7 @@ fn sheet_number(sheet: &[u8]) -> u8
 // The totals over a sheet's rows. Any bytes get an answer.
 #[unsafe(no_mangle)]
 pub extern "C" fn typetext_totals(sheet: &[u8]) -> TypetextTotals
-    ensures { result ≡ total-numbers (totals 65536 8 1024 sheet.now) }
+    ensures { result ≡ total_numbers (totals 65536 8 1024 sheet.now) }
 {
     total_numbers(sheet::totals(sheet))
 }
@@ -70,7 +70,7 @@ pub extern "C" fn typetext_totals(sheet: &[u8]) -> TypetextTotals
 // The row that begins at a place, and the place of the next. Any bytes and any place get an answer.
 #[unsafe(no_mangle)]
 pub extern "C" fn typetext_next_row(sheet: &[u8], place: usize) -> TypetextRow
-    ensures { result ≡ row-numbers (sheet-number sheet.now) (cut 65536 sheet.now place) }
+    ensures { result ≡ row_numbers (sheet_number sheet.now) (cut 65536 sheet.now place) }
 {
     let c = sheet::cut_at(sheet, place);
     TypetextRow {

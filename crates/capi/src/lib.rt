@@ -6,8 +6,8 @@ mod write;
 
 ghost use Rattle.std.specs.Prelude.{◌≡◌};
 ghost use Rattle.meaning.specs.Ordinary.{ordinary};
-ghost use Rattle.numbers.specs.Numbers.{in-numbers};
-ghost use Rattle.capi.specs.Abi.{Strict-numbers};
+ghost use Rattle.numbers.specs.Numbers.{in_numbers};
+ghost use Rattle.capi.specs.Abi.{StrictNumbers};
 
 pub use collect::{typetext_end, typetext_feed};
 pub use count::{TypetextRow, TypetextTotals, typetext_next_row, typetext_totals};
@@ -18,7 +18,7 @@ pub use write::{TypetextWritten, typetext_write};
 // The ordinary reader: what `Type::parse` returns, or a refusal, with the default counts. Any bytes get an answer.
 #[unsafe(no_mangle)]
 pub extern "C" fn typetext_parse(text: &[u8]) -> TypetextReading
-    ensures { result ≡ in-numbers (ordinary 8 1024 text.now) }
+    ensures { result ≡ in_numbers (ordinary 8 1024 text.now) }
 {
     in_numbers(ordinary::parse(text))
 }
@@ -26,7 +26,7 @@ pub extern "C" fn typetext_parse(text: &[u8]) -> TypetextReading
 // The strict reader: the type of a strict form, or a refusal. Any bytes get an answer.
 #[unsafe(no_mangle)]
 pub extern "C" fn typetext_parse_strict(text: &[u8]) -> TypetextReading
-    ensures { Strict-numbers text.now result }
+    ensures { StrictNumbers text.now result }
 {
     in_numbers(strict::parse_strict(text))
 }

@@ -1,6 +1,6 @@
 // The writer's C face: a record in numbers, its text laid in the caller's room (docs/ABI.md).
 ghost use Rattle.std.specs.Prelude.{◌≡◌};
-ghost use Rattle.capi.specs.Abi.{outcome, write-numbers};
+ghost use Rattle.capi.specs.Abi.{outcome, write_numbers};
 
 use numbers::TypetextRecord;
 
@@ -13,7 +13,7 @@ pub struct TypetextWritten {
 }
 
 fn write_numbers(n: TypetextRecord, room: &mut [u8]) -> TypetextWritten
-    ensures { outcome result room.new ≡ write-numbers n room.old }
+    ensures { outcome result room.new ≡ write_numbers n room.old }
 {
     let s = numbers::of_numbers(n);
     if !s.known {
@@ -31,7 +31,7 @@ fn write_numbers(n: TypetextRecord, room: &mut [u8]) -> TypetextWritten
 // The writer: the record's text at the front of the room, or a refusal and the room as it was. Any numbers get an answer.
 #[unsafe(no_mangle)]
 pub extern "C" fn typetext_write(record: &TypetextRecord, room: &mut [u8]) -> TypetextWritten
-    ensures { outcome result room.new ≡ write-numbers «record».now room.old }
+    ensures { outcome result room.new ≡ write_numbers «record».now room.old }
 {
     write_numbers(*record, room)
 }

@@ -19,17 +19,17 @@ pub record Call (c : Collector) (piece : Text) (Rest : Collector → Type 0) : T
   pub onward : Rest left
 
 -- the pieces are fed one after the other: from the first collector to the second
-abbrev pub Fed-through : Collector → List Text → Collector → Type 0
-Fed-through c [] e = e ≡ c
-Fed-through c (p ∷ ps) e = Call c p (λ d. Fed-through d ps e)
+abbrev pub FedThrough : Collector → List Text → Collector → Type 0
+FedThrough c [] e = e ≡ c
+FedThrough c (p ∷ ps) e = Call c p (λ d. FedThrough d ps e)
 
-through : (c e : Collector) (pieces : List Text) → Fed-through c pieces e → e ≡ foldl (fed 1024) c pieces
+through : (c e : Collector) (pieces : List Text) → FedThrough c pieces e → e ≡ foldl (fed 1024) c pieces
 through c e [] t = t
 through c e (p ∷ ps) t = through t.left e ps t.onward ∙ ap (λ (x : Collector). foldl (fed 1024) x ps) t.feeds.1
 
 -- one text, from a fresh collector to the end
-pub one-text : (c d e : Collector) (pieces : List Text) (r : Reading) → c ≡ fresh 1024 → Fed-through c pieces d → Ends d r e →
+pub one_text : (c d e : Collector) (pieces : List Text) (r : Reading) → c ≡ fresh 1024 → FedThrough c pieces d → Ends d r e →
     (r ≡ ordinary 8 1024 (flatten pieces)) × (e ≡ fresh 1024)
-one-text c d e pieces r f t n =
+one_text c d e pieces r f t n =
     let k : d ≡ P.after 1024 pieces = through c d pieces t ∙ ap (λ (x : Collector). foldl (fed 1024) x pieces) f in
-    (n.0 ∙ ap (answered 8 1024) k ∙ P.ends-as-read 1024 8 pieces, n.1 ∙ ap (ended 1024) k ∙ P.fresh-again 1024 pieces)
+    (n.0 ∙ ap (answered 8 1024) k ∙ P.ends_as_read 1024 8 pieces, n.1 ∙ ap (ended 1024) k ∙ P.fresh_again 1024 pieces)

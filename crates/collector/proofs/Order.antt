@@ -26,8 +26,8 @@ use Rattle.collector.specs.Parts.{of_parts}
 pub looked : (s : Text) (i : ℕ) (z : Bool) → i < length s → zeros s ≡ z && zeros (drop i s) → zeros s ≡ (z && eqb (get_or s i 0) 0) && zeros (drop (i + 1) s)
 looked s i z h e = e ∙ rw (view s i h) (sym (and_assoc z (eqb (get_or s i 0) 0) (zeros (drop (i + 1) s))))
 
-pub all-looked : (s : Text) (i : ℕ) (z : Bool) → length s ≤ i → zeros s ≡ z && zeros (drop i s) → z ≡ zeros s
-all-looked s i z h e = sym (e ∙ rw (drop_of_length-le s h) (and-true z))
+pub all_looked : (s : Text) (i : ℕ) (z : Bool) → length s ≤ i → zeros s ≡ z && zeros (drop i s) → z ≡ zeros s
+all_looked s i z h e = sym (e ∙ rw (drop_of_length-le s h) (and-true z))
 
 first : (a b : Bool) → a && b ≡ true → a ≡ true
 first true b e = refl
@@ -42,14 +42,14 @@ pub blank : (s : Text) → zeros s ≡ true → s ≡ replicate (length s) 0
 blank [] e = refl
 blank (b ∷ s) e = λ i. eqb-true b 0 (first (eqb b 0) (zeros s) e) i ∷ blank s (second (eqb b 0) (zeros s) e) i
 
-pub zeros-blank : (n : ℕ) → zeros (replicate n 0) ≡ true
-zeros-blank zero = refl
-zeros-blank (suc n) = zeros-blank n
+pub zeros_blank : (n : ℕ) → zeros (replicate n 0) ≡ true
+zeros_blank zero = refl
+zeros_blank (suc n) = zeros_blank n
 
-zeros-drop : (n : ℕ) (s : Text) → zeros s ≡ true → zeros (drop n s) ≡ true
-zeros-drop zero s e = e
-zeros-drop (suc n) [] e = refl
-zeros-drop (suc n) (b ∷ s) e = zeros-drop n s (second (eqb b 0) (zeros s) e)
+zeros_drop : (n : ℕ) (s : Text) → zeros s ≡ true → zeros (drop n s) ≡ true
+zeros_drop zero s e = e
+zeros_drop (suc n) [] e = refl
+zeros_drop (suc n) (b ∷ s) e = zeros_drop n s (second (eqb b 0) (zeros s) e)
 
 -- ── a piece is laid in, byte after byte ──
 
@@ -58,8 +58,8 @@ pub record Putting (d : Text) (at : ℕ) (s t : Text) (i : ℕ) : Type 0 where
   pub long : length t ≡ length d
   pub within : i ≤ length s
 
-pub put-start : (d : Text) (at : ℕ) (s : Text) → Putting d at s d 0
-put-start d at s = record { same = paste-zero d at s; long = refl; within = omega arith }
+pub put_start : (d : Text) (at : ℕ) (s : Text) → Putting d at s d 0
+put_start d at s = record { same = paste-zero d at s; long = refl; within = omega arith }
 
 pub put_step : {d s t : Text} {at i : ℕ} → Putting d at s t i → i < length s → at + length s ≤ length d → Putting d at s (set t (at + i) (get_or s i 0)) (i + 1)
 put_step {d} {s} {t} {at} {i} p h k = record {
@@ -68,8 +68,8 @@ put_step {d} {s} {t} {at} {i} p h k = record {
   within = omega arith;
 }
 
-pub put-end : {d s t : Text} {at i : ℕ} → Putting d at s t i → length s ≤ i → t ≡ paste d at s (length s)
-put-end {d} {s} {t} {at} {i} p h = let e : i ≡ length s = omega (arith, p.within) in p.same ∙ ap (λ (n : ℕ). paste d at s n) e
+pub put_end : {d s t : Text} {at i : ℕ} → Putting d at s t i → length s ≤ i → t ≡ paste d at s (length s)
+put_end {d} {s} {t} {at} {i} p h = let e : i ≡ length s = omega (arith, p.within) in p.same ∙ ap (λ (n : ℕ). paste d at s n) e
 
 -- zeros laid everywhere
 pub cleared : (b z : Text) (n : ℕ) (t : Text) → length b ≡ n → z ≡ replicate n 0 → t ≡ paste b 0 z (length z) → t ≡ replicate n 0
@@ -104,9 +104,9 @@ module _ (size : ℕ) (b : Text) (n : ℕ) (o : Bool) where
       by false d r e = absurd (false≢true e)
 
   -- else the room past the number decides
-  pub by-room : length b ≡ size → n ≤ size → o && not (eqb n 0) ≡ false → zeros (drop n b) ≡ in_order size c
+  pub by_room : length b ≡ size → n ≤ size → o && not (eqb n 0) ≡ false → zeros (drop n b) ≡ in_order size c
   unfolding in_order
-  by-room l h e = rw (eq-eqb (length b) size l, le-leb n size h) (by o n e)
+  by_room l h e = rw (eq-eqb (length b) size l, le-leb n size h) (by o n e)
     where
       by : (o : Bool) (n : ℕ) → o && not (eqb n 0) ≡ false → zeros (drop n b) ≡ zeros (drop n b) && (if o then eqb n 0 && zeros b else true)
       by false n e = sym (and-true (zeros (drop n b)))
@@ -157,7 +157,7 @@ module _ (size : ℕ) (b : Text) (n : ℕ) (o : Bool) where
     -- what stands behind the piece is as many zeros as there is room
     behind : (m : ℕ) → m ≡ n + length p → drop (n + length p) b ≡ replicate (size - m) 0
     behind m e =
-        sym (drop-drop (length p) n b) ∙ blank (drop (length p) (drop n b)) (zeros-drop (length p) (drop n b) (ordered y).room)
+        sym (drop-drop (length p) n b) ∙ blank (drop (length p) (drop n b)) (zeros_drop (length p) (drop n b) (ordered y).room)
         ∙ ap (λ (k : ℕ). replicate k 0) (ap length (drop-drop (length p) n b) ∙ length-drop (n + length p) b ∙ (λ i. full i - sym e i))
 
     -- within it the piece stands behind what was held
@@ -174,13 +174,13 @@ emptied size e = ap (λ (l : Text). of_parts l 0 false) e ∙ ap (λ (n : ℕ). 
 -- ── the answers, by the order test ──
 
 module _ (cap size : ℕ) (c : Collector) where
-  pub feed-refused : (p : Text) → in_order size c ≡ false → (NotInOrder ≡ told size c) × (c ≡ fed size c p)
+  pub feed_refused : (p : Text) → in_order size c ≡ false → (NotInOrder ≡ told size c) × (c ≡ fed size c p)
   unfolding told fed
-  feed-refused p n = rw n (refl, refl)
+  feed_refused p n = rw n (refl, refl)
 
-  pub feed-taken : (p : Text) {d : Collector} → in_order size c ≡ true → d ≡ laid size (joined size (held c) p) → (Taken ≡ told size c) × (d ≡ fed size c p)
+  pub feed_taken : (p : Text) {d : Collector} → in_order size c ≡ true → d ≡ laid size (joined size (held c) p) → (Taken ≡ told size c) × (d ≡ fed size c p)
   unfolding told fed
-  feed-taken p y e = rw y (refl, e)
+  feed_taken p y e = rw y (refl, e)
 
   pub end_kept : in_order size c ≡ false → c ≡ ended size c
   unfolding ended
@@ -198,30 +198,30 @@ module _ (cap size : ℕ) (c : Collector) where
   unfolding answered
   end_reads y e = rw y e
 
-  pub end-answered : {r : Reading} {d : Collector} → in_order size c ≡ true → r ≡ answer cap size (held c) → d ≡ fresh size → (r ≡ answered cap size c) × (d ≡ ended size c)
-  end-answered y e f = (end_reads y e, f ∙ end_fresh y)
+  pub end_answered : {r : Reading} {d : Collector} → in_order size c ≡ true → r ≡ answer cap size (held c) → d ≡ fresh size → (r ≡ answered cap size c) × (d ≡ ended size c)
+  end_answered y e f = (end_reads y e, f ∙ end_fresh y)
 
   -- ── what a verdict tells ──
 
-  pub is-taken : in_order size c ≡ true → Taken ≡ told size c
+  pub is_taken : in_order size c ≡ true → Taken ≡ told size c
   unfolding told
-  is-taken y = rw y
+  is_taken y = rw y
 
-  pub is-refused : in_order size c ≡ false → NotInOrder ≡ told size c
+  pub is_refused : in_order size c ≡ false → NotInOrder ≡ told size c
   unfolding told
-  is-refused n = rw n
+  is_refused n = rw n
 
-  pub taken-tells : Taken ≡ told size c → in_order size c ≡ true
+  pub taken_tells : Taken ≡ told size c → in_order size c ≡ true
   unfolding told
-  taken-tells e = by (in_order size c) e
+  taken_tells e = by (in_order size c) e
     where
       by : (d : Bool) → Taken ≡ (if d then Taken else NotInOrder) → d ≡ true
       by true e = refl
       by false e = let z : ◌≡◌ {A = ℕ} 0 6 = ap number e in let f : ⊥ = omega arith in absurd f
 
-  pub refused-tells : NotInOrder ≡ told size c → in_order size c ≡ false
+  pub refused_tells : NotInOrder ≡ told size c → in_order size c ≡ false
   unfolding told
-  refused-tells e = by (in_order size c) e
+  refused_tells e = by (in_order size c) e
     where
       by : (d : Bool) → NotInOrder ≡ (if d then Taken else NotInOrder) → d ≡ false
       by true e = let z : ◌≡◌ {A = ℕ} 6 0 = ap number e in let f : ⊥ = omega arith in absurd f

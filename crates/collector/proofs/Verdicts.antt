@@ -34,11 +34,11 @@ abbrev pub Verdict : {M : Type 1} {𝓤 : Ura M} (𝓛 : Logic 𝓤) (mem : Memo
 Verdict 𝓛 mem run = triple_of 𝓛 verdict.signature (verdict.spec 𝓛 mem run)
 
 module _ {M : Type 1} {𝓤 : Ura M} (𝓛 : Logic 𝓤) (at_mem : Memory → SProp 𝓤) (run : Routine → Fun 𝓤) (h : Collector) where
-  abbrev pub to-verdict : (Verdict 𝓛 at_mem run).Ghost
-  to-verdict = ((tt, tt, tt, (h, tt), (value h ∷ [], tt)), tt)
+  abbrev pub to_verdict : (Verdict 𝓛 at_mem run).Ghost
+  to_verdict = ((tt, tt, tt, (h, tt), (value h ∷ [], tt)), tt)
 
-  pub goes-verdict : ent 𝓤 (⋆ 𝓛 (‵ (R.own_val h (value h ∷ [])) ∷ [])) ((Verdict 𝓛 at_mem run).pre to-verdict)
-  goes-verdict = qed 𝓛 (‵ (R.own_val h (value h ∷ [])) ∷ []) ∵ nothing ! $ move ! (1 ∷ 0 ∷ []) $ fjoin ! $ nothing ! $ join ! $ frame ! $ done !
+  pub goes_verdict : ent 𝓤 (⋆ 𝓛 (‵ (R.own_val h (value h ∷ [])) ∷ [])) ((Verdict 𝓛 at_mem run).pre to_verdict)
+  goes_verdict = qed 𝓛 (‵ (R.own_val h (value h ∷ [])) ∷ []) ∵ nothing ! $ move ! (1 ∷ 0 ∷ []) $ fjoin ! $ nothing ! $ join ! $ frame ! $ done !
 
-  pub verdict-said : (t : Fed) → ent 𝓤 (ensured 𝓛 verdict.ended (verdict.clauses 𝓛 at_mem run) tt (h, tt) tt t) (fact 𝓤 (t ≡ told 1024 h))
-  verdict-said t = ex_e 𝓤 _ (λ ws. snd∗ 𝓤 (sem 𝓛 (lasts verdict.ended tt (h, tt) ws)) (fact 𝓤 (t ≡ told 1024 h)))
+  pub verdict_said : (t : Fed) → ent 𝓤 (ensured 𝓛 verdict.ended (verdict.clauses 𝓛 at_mem run) tt (h, tt) tt t) (fact 𝓤 (t ≡ told 1024 h))
+  verdict_said t = ex_e 𝓤 _ (λ ws. snd∗ 𝓤 (sem 𝓛 (lasts verdict.ended tt (h, tt) ws)) (fact 𝓤 (t ≡ told 1024 h)))

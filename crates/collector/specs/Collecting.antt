@@ -29,15 +29,15 @@ in_order size c =
 -- the bytes so far; or, once they are over the limit, that they are too many
 pub data Held : Type 0 where
   holds : Text → Held
-  over-full : Held
+  over_full : Held
 
 unfoldable pub held : Collector → Held
-held c = if c.over then over-full else holds (take c.len c.bytes)
+held c = if c.over then over_full else holds (take c.len c.bytes)
 
 -- the collector that holds this
 abbrev pub laid : ℕ → Held → Collector
 laid size (holds s) = record { bytes = s ++ replicate (size - length s) 0; len = length s; over = false }
-laid size over-full = record { bytes = replicate size 0; len = 0; over = true }
+laid size over_full = record { bytes = replicate size 0; len = 0; over = true }
 
 unfoldable pub fresh : ℕ → Collector
 fresh size = laid size (holds [])
@@ -46,8 +46,8 @@ fresh size = laid size (holds [])
 
 -- once the total passes the limit it stays over-full
 abbrev pub joined : ℕ → Held → Text → Held
-joined size (holds s) piece = if leb (length (s ++ piece)) size then holds (s ++ piece) else over-full
-joined size over-full piece = over-full
+joined size (holds s) piece = if leb (length (s ++ piece)) size then holds (s ++ piece) else over_full
+joined size over_full piece = over_full
 
 -- a collector that isn't in order is refused and unaltered; a piece gives no other refusal
 unfoldable pub told : ℕ → Collector → Fed
@@ -66,7 +66,7 @@ number NotInOrder = 6
 -- as the ordinary reader does on the bytes; over-full, 1
 abbrev pub answer : ℕ → ℕ → Held → Reading
 answer cap size (holds s) = ordinary cap size s
-answer cap size over-full = refused cap TooLong 0
+answer cap size over_full = refused cap TooLong 0
 
 -- 6 first, exactly for a collector that isn't in order
 unfoldable pub answered : ℕ → ℕ → Collector → Reading

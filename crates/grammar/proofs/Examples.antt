@@ -33,8 +33,8 @@ DYN = negsuc (2 ^ 63 - 1)
 names_same : zipped (λ s. s) words scalars ≡ map (λ n. bytes n.spelling ↝ n.scalar) names
 names_same = refl
 
-mark-27 : length (mark true) ≡ 27
-mark-27 = refl
+mark_27 : length (mark true) ≡ 27
+mark_27 = refl
 
 -- ── read whole ──
 

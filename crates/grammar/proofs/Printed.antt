@@ -10,14 +10,14 @@ use lib.Dec.{T, leb, ltb, leb→le, lt→ltb, ltb→lt}
 use lib.IntN.{ℤ}
 use Rattle.lexis.specs.Text.{Text, bytes}
 use Rattle.meaning.specs.Decimal.{decimal, Dim, dynamic, known, dim}
-use Rattle.meaning.specs.Ordinary.{high-from}
+use Rattle.meaning.specs.Ordinary.{high_from}
 use Rattle.meaning.specs.Strict as S
-use Rattle.meaning.specs.Strict.{may, words, pads, Name, Place, word, pad, comma, Next, Commas, rest, commas, dims, xrest, Entries, byX, byComma}
-use Rattle.meaning.specs.Strict.{entries, cuda, mark, Pointer, pointerText, Element, element, Strides, strides, Tensor, body, Pads, padText, Intro, bare}
-use Rattle.meaning.specs.Strict.{prefixed, named, introText, View, viewText, mapText, travelText, Form, spell}
+use Rattle.meaning.specs.Strict.{may, words, pads, Name, Place, word, pad, comma, Next, Commas, rest, commas, dims, xrest, Entries, by_x, by_comma}
+use Rattle.meaning.specs.Strict.{entries, cuda, mark, Pointer, pointer_text, Element, element, Strides, strides, Tensor, body, Pads, pad_text, Intro, bare}
+use Rattle.meaning.specs.Strict.{prefixed, named, intro_text, View, view_text, map_text, travel_text, Form, spell}
 use Rattle.meaning.specs.Meant.{Any, Strict}
-use Rattle.grammar.specs.Tests.{every, and_left, and_right, every-++, every-nth}
-use Rattle.grammar.specs.Digits.{decimal-over}
+use Rattle.grammar.specs.Tests.{every, and_left, and_right, every-++, every_nth}
+use Rattle.grammar.specs.Digits.{decimal_over}
 
 -- ── bytes below 128 ──
 
@@ -40,115 +40,115 @@ quoted t h = record { within = h }
 nil : Plain []
 nil = record { within = tt }
 
-none-high : (k : ℕ) (t : Text) → T (plain t) → high-from k t ≡ none
-none-high k [] h = refl
-none-high k (b ∷ t) h =
+none_high : (k : ℕ) (t : Text) → T (plain t) → high_from k t ≡ none
+none_high k [] h = refl
+none_high k (b ∷ t) h =
     let e = lt-leb 128 b (ltb→lt b 128 (and_left (low b) (plain t) h)) in
-    rw e (none-high (suc k) t (and_right (low b) (plain t) h))
+    rw e (none_high (suc k) t (and_right (low b) (plain t) h))
 
 -- ── numbers ──
 
-decimal-plain : (z : ℤ) → Plain (decimal z)
-decimal-plain z = record { within = decimal-over low (λ c h. lt→ltb c 128 (let k = leb→le c 57 (and_right (leb 48 c) (leb c 57) h) in omega arith)) tt z }
+decimal_plain : (z : ℤ) → Plain (decimal z)
+decimal_plain z = record { within = decimal_over low (λ c h. lt→ltb c 128 (let k = leb→le c 57 (and_right (leb 48 c) (leb c 57) h) in omega arith)) tt z }
 
-dim-plain : (d : Dim) → Plain (dim d)
-dim-plain dynamic = quoted (bytes "?") tt
-dim-plain (known z) = decimal-plain z
+dim_plain : (d : Dim) → Plain (dim d)
+dim_plain dynamic = quoted (bytes "?") tt
+dim_plain (known z) = decimal_plain z
 
 -- ── the parts of a form ──
 
-may-plain : (b : Bool) {t : Text} → Plain t → Plain (may b t)
-may-plain true h = h
-may-plain false h = nil
+may_plain : (b : Bool) {t : Text} → Plain t → Plain (may b t)
+may_plain true h = h
+may_plain false h = nil
 
-word-plain : (n : Name) → Plain (word n)
-word-plain n = record { within = every-nth plain [] tt words tt n.index }
+word_plain : (n : Name) → Plain (word n)
+word_plain n = record { within = every_nth plain [] tt words tt n.index }
 
-pad-plain : (p : Place 5) → Plain (pad p)
-pad-plain p = record { within = every-nth plain [] tt pads tt p.index }
+pad_plain : (p : Place 5) → Plain (pad p)
+pad_plain p = record { within = every_nth plain [] tt pads tt p.index }
 
-comma-plain : (s : Bool) → Plain (comma s)
-comma-plain s = quoted (bytes ",") tt also may-plain s (quoted (bytes " ") tt)
+comma_plain : (s : Bool) → Plain (comma s)
+comma_plain s = quoted (bytes ",") tt also may_plain s (quoted (bytes " ") tt)
 
 rest_plain : {A : Type 0} (f : A → Text) → ((a : A) → Plain (f a)) → (l : List (Next A)) → Plain (rest f l)
 rest_plain f h [] = nil
-rest_plain f h (n ∷ l) = comma-plain n.space also h n.entry also rest_plain f h l
+rest_plain f h (n ∷ l) = comma_plain n.space also h n.entry also rest_plain f h l
 
-commas-plain : {A : Type 0} (f : A → Text) → ((a : A) → Plain (f a)) → (c : Commas A) → Plain (commas f c)
-commas-plain f h c = h c.head also rest_plain f h c.tail
+commas_plain : {A : Type 0} (f : A → Text) → ((a : A) → Plain (f a)) → (c : Commas A) → Plain (commas f c)
+commas_plain f h c = h c.head also rest_plain f h c.tail
 
-dims-plain : (l : List Dim) → Plain (dims l)
-dims-plain [] = nil
-dims-plain (d ∷ l) = dim-plain d also quoted (bytes "x") tt also dims-plain l
+dims_plain : (l : List Dim) → Plain (dims l)
+dims_plain [] = nil
+dims_plain (d ∷ l) = dim_plain d also quoted (bytes "x") tt also dims_plain l
 
-xrest-plain : (l : List ℤ) → Plain (xrest l)
-xrest-plain [] = nil
-xrest-plain (z ∷ l) = quoted (bytes "x") tt also decimal-plain z also xrest-plain l
+xrest_plain : (l : List ℤ) → Plain (xrest l)
+xrest_plain [] = nil
+xrest_plain (z ∷ l) = quoted (bytes "x") tt also decimal_plain z also xrest_plain l
 
-entries-plain : (e : Entries) → Plain (entries e)
-entries-plain (byX z l) = decimal-plain z also xrest-plain l
-entries-plain (byComma c) = commas-plain decimal decimal-plain c
+entries_plain : (e : Entries) → Plain (entries e)
+entries_plain (by_x z l) = decimal_plain z also xrest_plain l
+entries_plain (by_comma c) = commas_plain decimal decimal_plain c
 
-cuda-plain : (b : Bool) → Plain (cuda b)
-cuda-plain b = may-plain b (quoted (bytes "!cuda_tile.") tt)
+cuda_plain : (b : Bool) → Plain (cuda b)
+cuda_plain b = may_plain b (quoted (bytes "!cuda_tile.") tt)
 
-mark-plain : (b : Bool) → Plain (mark b)
-mark-plain b = may-plain b (quoted (bytes ", #cuda_tile.ptr_attr<none>") tt)
+mark_plain : (b : Bool) → Plain (mark b)
+mark_plain b = may_plain b (quoted (bytes ", #cuda_tile.ptr_attr<none>") tt)
 
-pointer-plain : (p : Pointer) → Plain (pointerText p)
-pointer-plain p = cuda-plain p.front also quoted (bytes "ptr<") tt also word-plain p.name also mark-plain p.marked also quoted (bytes ">") tt
+pointer_plain : (p : Pointer) → Plain (pointer_text p)
+pointer_plain p = cuda_plain p.front also quoted (bytes "ptr<") tt also word_plain p.name also mark_plain p.marked also quoted (bytes ">") tt
 
-element-plain : (e : Element) → Plain (element e)
-element-plain (S.plain n) = word-plain n
-element-plain (S.pointer p) = pointer-plain p
+element_plain : (e : Element) → Plain (element e)
+element_plain (S.plain n) = word_plain n
+element_plain (S.pointer p) = pointer_plain p
 
-strides-plain : (s : Strides) {t : Text} → Plain t → Plain (strides s t)
-strides-plain S.Strides.absent h = h
-strides-plain (S.Strides.given s c) h = comma-plain s also quoted (bytes "strides=[") tt also commas-plain dim dim-plain c also quoted (bytes "]") tt also h
+strides_plain : (s : Strides) {t : Text} → Plain t → Plain (strides s t)
+strides_plain S.Strides.absent h = h
+strides_plain (S.Strides.given s c) h = comma_plain s also quoted (bytes "strides=[") tt also commas_plain dim dim_plain c also quoted (bytes "]") tt also h
 
-body-plain : (t : Tensor) → Plain (body t)
-body-plain t = dims-plain t.shape also word-plain t.name also strides-plain t.strides (mark-plain t.marked)
+body_plain : (t : Tensor) → Plain (body t)
+body_plain t = dims_plain t.shape also word_plain t.name also strides_plain t.strides (mark_plain t.marked)
 
-pads-plain : (p : Pads) → Plain (padText p)
-pads-plain S.Pads.absent = nil
-pads-plain (S.Pads.given p s) = quoted (bytes "padding_value=") tt also pad-plain p also comma-plain s
+pads_plain : (p : Pads) → Plain (pad_text p)
+pads_plain S.Pads.absent = nil
+pads_plain (S.Pads.given p s) = quoted (bytes "padding_value=") tt also pad_plain p also comma_plain s
 
-intro-plain : (i : Intro) → Plain (introText i)
-intro-plain bare = nil
-intro-plain prefixed = quoted (bytes "!cuda_tile.") tt
-intro-plain named = quoted (bytes "tensor_view=!cuda_tile.") tt
+intro_plain : (i : Intro) → Plain (intro_text i)
+intro_plain bare = nil
+intro_plain prefixed = quoted (bytes "!cuda_tile.") tt
+intro_plain named = quoted (bytes "tensor_view=!cuda_tile.") tt
 
-view-plain : (v : View) {m d : Text} → Plain m → Plain d → Plain (viewText v m d)
-view-plain v m d =
-    quoted (bytes "tile=(") tt also entries-plain v.tile also quoted (bytes ")") tt also comma-plain v.space also m
-    also pads-plain v.padding also intro-plain v.intro also quoted (bytes "tensor_view<") tt also body-plain v.tensor
-    also quoted (bytes ">") tt also comma-plain v.space' also d
+view_plain : (v : View) {m d : Text} → Plain m → Plain d → Plain (view_text v m d)
+view_plain v m d =
+    quoted (bytes "tile=(") tt also entries_plain v.tile also quoted (bytes ")") tt also comma_plain v.space also m
+    also pads_plain v.padding also intro_plain v.intro also quoted (bytes "tensor_view<") tt also body_plain v.tensor
+    also quoted (bytes ">") tt also comma_plain v.space' also d
 
-map-plain : (c : Commas ℤ) → Plain (mapText c)
-map-plain c = quoted (bytes "dim_map=[") tt also commas-plain decimal decimal-plain c also quoted (bytes "]") tt
+map_plain : (c : Commas ℤ) → Plain (map_text c)
+map_plain c = quoted (bytes "dim_map=[") tt also commas_plain decimal decimal_plain c also quoted (bytes "]") tt
 
-travel-plain : (c : Commas ℤ) (s : Bool) → Plain (travelText c s)
-travel-plain c s =
-    quoted (bytes "traversal_strides=[") tt also commas-plain decimal decimal-plain c also quoted (bytes "]") tt also comma-plain s
+travel_plain : (c : Commas ℤ) (s : Bool) → Plain (travel_text c s)
+travel_plain c s =
+    quoted (bytes "traversal_strides=[") tt also commas_plain decimal decimal_plain c also quoted (bytes "]") tt also comma_plain s
 
 -- ── strict texts ──
 
-spell-plain : (f : Form) → Plain (spell f)
-spell-plain (S.scalar n) = word-plain n
-spell-plain (S.token p) = cuda-plain p also quoted (bytes "token") tt
-spell-plain (S.ptr p) = pointer-plain p
-spell-plain (S.tile p ds e) = cuda-plain p also quoted (bytes "tile<") tt also dims-plain ds also element-plain e also quoted (bytes ">") tt
-spell-plain (S.tensor p t) = cuda-plain p also quoted (bytes "tensor_view<") tt also body-plain t also quoted (bytes ">") tt
-spell-plain (S.partition v c) =
-    cuda-plain v.front also quoted (bytes "partition_view<") tt also view-plain v nil (map-plain c) also quoted (bytes ">") tt
-spell-plain (S.gather v z) =
-    cuda-plain v.front also quoted (bytes "gather_scatter_view<") tt also view-plain v nil (quoted (bytes "sparse_dim=") tt also decimal-plain z) also quoted (bytes ">") tt
-spell-plain (S.strided v c s d) =
-    cuda-plain v.front also quoted (bytes "strided_view<") tt also view-plain v (travel-plain c s) (map-plain d) also quoted (bytes ">") tt
+spell_plain : (f : Form) → Plain (spell f)
+spell_plain (S.scalar n) = word_plain n
+spell_plain (S.token p) = cuda_plain p also quoted (bytes "token") tt
+spell_plain (S.ptr p) = pointer_plain p
+spell_plain (S.tile p ds e) = cuda_plain p also quoted (bytes "tile<") tt also dims_plain ds also element_plain e also quoted (bytes ">") tt
+spell_plain (S.tensor p t) = cuda_plain p also quoted (bytes "tensor_view<") tt also body_plain t also quoted (bytes ">") tt
+spell_plain (S.partition v c) =
+    cuda_plain v.front also quoted (bytes "partition_view<") tt also view_plain v nil (map_plain c) also quoted (bytes ">") tt
+spell_plain (S.gather v z) =
+    cuda_plain v.front also quoted (bytes "gather_scatter_view<") tt also view_plain v nil (quoted (bytes "sparse_dim=") tt also decimal_plain z) also quoted (bytes ">") tt
+spell_plain (S.strided v c s d) =
+    cuda_plain v.front also quoted (bytes "strided_view<") tt also view_plain v (travel_plain c s) (map_plain d) also quoted (bytes ">") tt
 
 plainly : (t : Text) (a : Any) → Strict t a → T (plain t)
-plainly t a h = subst (λ (u : Text). T (plain u)) (sym h.text) (spell-plain h.form).within
+plainly t a h = subst (λ (u : Text). T (plain u)) (sym h.text) (spell_plain h.form).within
 
 -- A STRICT TEXT IS ASCII
-pub strict-low : (t : Text) (a : Any) → Strict t a → high-from 0 t ≡ none
-strict-low t a h = none-high 0 t (plainly t a h)
+pub strict_low : (t : Text) (a : Any) → Strict t a → high_from 0 t ≡ none
+strict_low t a h = none_high 0 t (plainly t a h)

@@ -4,7 +4,7 @@ use Rattle.std.proofs.Common.{arith, mod-lt, zero-lt-suc, le_refl, append-nil, a
 use Rattle.std.proofs.Math.Nat.{div-add-mod}
 use Rattle.numerals.specs.Numeral.{digit}
 use Rattle.meaning.specs.Decimal.{digits, decimal}
-use Rattle.grammar.specs.Tests.{every, and_left, and_right, and_in, every-mono}
+use Rattle.grammar.specs.Tests.{every, and_left, and_right, and_in, every_mono}
 
 pub small : (n f : ℕ) → n ≤ suc f → 10 ≤ n → n / 10 ≤ f
 small n f h k = let e = div-add-mod n 10 in omega arith
@@ -68,9 +68,9 @@ canonical d s h k t = more s [] d (suc d) (value d s) h t (omega arith) (le_refl
 pub digit_ok : (d : ℕ) → d < 10 → T (digit (48 + d))
 digit_ok d h = and_in (leb 48 (48 + d)) (leb (48 + d) 57) (le→leb 48 (48 + d) (omega arith)) (le→leb (48 + d) 57 (omega arith))
 
-pub digits-digit : (f n : ℕ) (ds : List ℕ) → T (every digit ds) → T (every digit (digits f n ds))
-digits-digit zero n ds h = and_in (digit (48 + n % 10)) (every digit ds) (digit_ok (n % 10) (mod-lt n (zero-lt-suc 9))) h
-digits-digit (suc f) n ds h = go (ltb n 10) (ltb→lt n 10) (digits-digit f (n / 10) ((48 + n % 10) ∷ ds)
+pub digits_digit : (f n : ℕ) (ds : List ℕ) → T (every digit ds) → T (every digit (digits f n ds))
+digits_digit zero n ds h = and_in (digit (48 + n % 10)) (every digit ds) (digit_ok (n % 10) (mod-lt n (zero-lt-suc 9))) h
+digits_digit (suc f) n ds h = go (ltb n 10) (ltb→lt n 10) (digits_digit f (n / 10) ((48 + n % 10) ∷ ds)
     (and_in (digit (48 + n % 10)) (every digit ds) (digit_ok (n % 10) (mod-lt n (zero-lt-suc 9))) h))
   where
     go : (k : Bool) → (T k → n < 10) → T (every digit (digits f (n / 10) ((48 + n % 10) ∷ ds))) →
@@ -79,7 +79,7 @@ digits-digit (suc f) n ds h = go (ltb n 10) (ltb→lt n 10) (digits-digit f (n /
     go false q r = r
 
 -- a class with the digits and `-`
-pub decimal-over : (D : ℕ → Bool) → ((c : ℕ) → T (digit c) → T (D c)) → T (D 45) → (z : ℤ) → T (every D (decimal z))
-decimal-over D f m (pos n) = every-mono digit D f (digits n n []) (digits-digit n n [] tt)
-decimal-over D f m (negsuc n) =
-    and_in (D 45) (every D (digits (suc n) (suc n) [])) m (every-mono digit D f (digits (suc n) (suc n) []) (digits-digit (suc n) (suc n) [] tt))
+pub decimal_over : (D : ℕ → Bool) → ((c : ℕ) → T (digit c) → T (D c)) → T (D 45) → (z : ℤ) → T (every D (decimal z))
+decimal_over D f m (pos n) = every_mono digit D f (digits n n []) (digits_digit n n [] tt)
+decimal_over D f m (negsuc n) =
+    and_in (D 45) (every D (digits (suc n) (suc n) [])) m (every_mono digit D f (digits (suc n) (suc n) []) (digits_digit (suc n) (suc n) [] tt))

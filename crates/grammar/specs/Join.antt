@@ -2,7 +2,7 @@
 -- Each is a piece again, by the laws of its parts.
 use Rattle.std.specs.Prelude.{ℕ, Bool, true, false, cond, ◌||◌, not, List, [], ◌∷◌, ◌++◌, ◌⊎◌, ◌≡◌, refl, T, eqb}
 use Rattle.std.proofs.Common.{append_assoc, inl, inr, subst, sym, ap, ◌∙◌}
-use Rattle.grammar.specs.Piece.{member, apart, within, stops, heads, apart-ok, stops-within, stops-heads, Answer, got, stuck, Alike, alike_self, Full, Good, Some, Piece}
+use Rattle.grammar.specs.Piece.{member, apart, within, stops, heads, apart_ok, stops_within, stops_heads, Answer, got, stuck, Alike, alike_self, Full, Good, Some, Piece}
 
 -- ── nothing: the value b ──
 abbrev pub yield : {B : Type 0} (E : B → List ℕ) (b : B) → Piece true [] B E
@@ -25,10 +25,10 @@ pub record Image {A B : Type 0} (f : A → B) (In : A → List ℕ → Type 0) (
   pub is : In value t
   pub says : f value ≡ b
 
-pub image-good : {A B : Type 0} (f : A → B) (In : A → List ℕ → Type 0) (read : List ℕ → Answer A) (t : List ℕ) (p : Answer A) → Good In read t p →
+pub image_good : {A B : Type 0} (f : A → B) (In : A → List ℕ → Type 0) (read : List ℕ → Answer A) (t : List ℕ) (p : Answer A) → Good In read t p →
     Good (Image f In) (λ x. mapped f (read x)) t (mapped f p)
-image-good f In read t (got a r) g = record { text = g.text; is = record { value = a; is = g.is; says = refl }; split = g.split; local = λ x al. ap (mapped f) (g.local x al) }
-image-good f In read t (stuck r) g = record {
+image_good f In read t (got a r) g = record { text = g.text; is = record { value = a; is = g.is; says = refl }; split = g.split; local = λ x al. ap (mapped f) (g.local x al) }
+image_good f In read t (stuck r) g = record {
   text = g.text;
   split = g.split;
   value = f g.value;
@@ -39,17 +39,17 @@ image-good f In read t (stuck r) g = record {
 
 module _ {n : Bool} {F : List ℕ} {A B : Type 0} {E : A → List ℕ} (f : A → B) (E' : B → List ℕ) (P : Piece n F A E)
     (sub : (a : A) → T (within (E a) (E' (f a)))) where
-  pub map-complete : (b : B) (u r : List ℕ) → Image f P.In b u → T (stops (E' b) r) → mapped f (P.read (u ++ r)) ≡ got b r
-  map-complete b u r i s =
-      ap (mapped f) (P.complete i.value u r i.is (stops-within (E i.value) (E' (f i.value)) r (sub i.value) (subst (λ (z : B). T (stops (E' z) r)) (sym i.says) s)))
+  pub map_complete : (b : B) (u r : List ℕ) → Image f P.In b u → T (stops (E' b) r) → mapped f (P.read (u ++ r)) ≡ got b r
+  map_complete b u r i s =
+      ap (mapped f) (P.complete i.value u r i.is (stops_within (E i.value) (E' (f i.value)) r (sub i.value) (subst (λ (z : B). T (stops (E' z) r)) (sym i.says) s)))
       ∙ ap (λ (z : B). got z r) i.says
 
   abbrev pub map : Piece n F B E'
   map = record {
     In = Image f P.In;
     read = λ x. mapped f (P.read x);
-    good = λ t. image-good f P.In P.read t (P.read t) (P.good t);
-    complete = map-complete;
+    good = λ t. image_good f P.In P.read t (P.read t) (P.good t);
+    complete = map_complete;
     leads = λ b u i. P.leads i.value u i.is;
     some = record { value = f P.some.value; text = P.some.text; is = record { value = P.some.value; is = P.some.is; says = refl } };
   }
@@ -57,15 +57,15 @@ module _ {n : Bool} {F : List ℕ} {A B : Type 0} {E : A → List ℕ} (f : A �
 -- ── the same texts in other words ──
 module _ {n : Bool} {F : List ℕ} {A : Type 0} {E : A → List ℕ} (P : Piece n F A E) (In' : A → List ℕ → Type 0)
     (to : (a : A) (t : List ℕ) → P.In a t → In' a t) (from : (a : A) (t : List ℕ) → In' a t → P.In a t) where
-  pub as-good : (t : List ℕ) (p : Answer A) → Good P.In P.read t p → Good In' P.read t p
-  as-good t (got a r) g = record { text = g.text; is = to a g.text g.is; split = g.split; local = g.local }
-  as-good t (stuck r) g = record { text = g.text; split = g.split; value = g.value; more = g.more; is = to g.value (g.text ++ g.more) g.is; local = g.local }
+  pub as_good : (t : List ℕ) (p : Answer A) → Good P.In P.read t p → Good In' P.read t p
+  as_good t (got a r) g = record { text = g.text; is = to a g.text g.is; split = g.split; local = g.local }
+  as_good t (stuck r) g = record { text = g.text; split = g.split; value = g.value; more = g.more; is = to g.value (g.text ++ g.more) g.is; local = g.local }
 
   abbrev pub restate : Piece n F A E
   restate = record {
     In = In';
     read = P.read;
-    good = λ t. as-good t (P.read t) (P.good t);
+    good = λ t. as_good t (P.read t) (P.good t);
     complete = λ a u r i s. P.complete a u r (from a u i) s;
     leads = λ a u i. P.leads a u (from a u i);
     some = record { value = P.some.value; text = P.some.text; is = to P.some.value P.some.text P.some.is };
@@ -128,18 +128,18 @@ module _ {A B : Type 0} (In : A → List ℕ → Type 0) (read : List ℕ → An
 
 module _ {F : List ℕ} {A B : Type 0} {E : A → List ℕ} {E' : B → List ℕ} (P : Piece false F A E) (n : A → Bool) (G : A → List ℕ)
     (Q : (a : A) → Piece (n a) (G a) B E') (sep : (a : A) → T (apart (G a) (E a))) (nul : (a : A) (b : B) → T (n a) → T (within (E a) (E' b))) where
-  abbrev pub bind-in : B → List ℕ → Type 0
-  bind-in = Then P.In (λ a. (Q a).In)
+  abbrev pub bind_in : B → List ℕ → Type 0
+  bind_in = Then P.In (λ a. (Q a).In)
 
-  pub bind-complete : (b : B) (u r : List ℕ) → bind-in b u → T (stops (E' b) r) → after (λ a. (Q a).read) (P.read (u ++ r)) ≡ got b r
-  bind-complete b u r i s =
+  pub bind_complete : (b : B) (u r : List ℕ) → bind_in b u → T (stops (E' b) r) → after (λ a. (Q a).read) (P.read (u ++ r)) ≡ got b r
+  bind_complete b u r i s =
       ap (λ (z : List ℕ). after (λ a. (Q a).read) (P.read z)) (ap (λ (z : List ℕ). z ++ r) (sym i.split) ∙ append_assoc i.front i.back r)
       ∙ ap (after (λ a. (Q a).read)) (P.complete i.value i.front (i.back ++ r) i.is
-      (stops-heads (n i.value) (G i.value) (E i.value) (E' b) i.back r (sep i.value) (nul i.value b) ((Q i.value).leads b i.back i.next) s))
+      (stops_heads (n i.value) (G i.value) (E i.value) (E' b) i.back r (sep i.value) (nul i.value b) ((Q i.value).leads b i.back i.next) s))
       ∙ (Q i.value).complete b i.back r i.next s
 
-  pub bind-leads : (b : B) (u : List ℕ) → bind-in b u → T (heads false F u)
-  bind-leads b u i = subst (λ (z : List ℕ). T (heads false F z)) i.split (longer i.front (P.leads i.value i.front i.is))
+  pub bind_leads : (b : B) (u : List ℕ) → bind_in b u → T (heads false F u)
+  bind_leads b u i = subst (λ (z : List ℕ). T (heads false F z)) i.split (longer i.front (P.leads i.value i.front i.is))
     where
       longer : (v : List ℕ) → T (heads false F v) → T (heads false F (v ++ i.back))
       longer [] h = absurd h
@@ -147,11 +147,11 @@ module _ {F : List ℕ} {A B : Type 0} {E : A → List ℕ} {E' : B → List ℕ
 
   abbrev pub bind : Piece false F B E'
   bind = record {
-    In = bind-in;
+    In = bind_in;
     read = λ x. after (λ a. (Q a).read) (P.read x);
     good = λ t. chains P.In P.read (λ a. (Q a).In) (λ a. (Q a).read) (λ a. (Q a).some) t (P.read t) (P.good t) (λ a r f. (Q a).good r);
-    complete = bind-complete;
-    leads = bind-leads;
+    complete = bind_complete;
+    leads = bind_leads;
     some = let s = P.some in let q = (Q s.value).some in
         record { value = q.value; text = s.text ++ q.text; is = record { value = s.value; front = s.text; back = q.text; is = s.is; next = q.is; split = refl } };
   }
@@ -161,52 +161,52 @@ abbrev pub fork : {A : Type 0} → List ℕ → (List ℕ → Answer A) → (Lis
 fork F f g [] = stuck []
 fork F f g (c ∷ t) = cond (member c F) (f (c ∷ t)) (g (c ∷ t))
 
-pub fork-left : {A : Type 0} (F : List ℕ) (f g : List ℕ → Answer A) (t : List ℕ) → T (heads false F t) → fork F f g t ≡ f t
-fork-left F f g [] h = absurd h
-fork-left F f g (c ∷ t) h = by (member c F) h
+pub fork_left : {A : Type 0} (F : List ℕ) (f g : List ℕ → Answer A) (t : List ℕ) → T (heads false F t) → fork F f g t ≡ f t
+fork_left F f g [] h = absurd h
+fork_left F f g (c ∷ t) h = by (member c F) h
   where
     by : (k : Bool) → T k → cond k (f (c ∷ t)) (g (c ∷ t)) ≡ f (c ∷ t)
     by true h = refl
     by false h = absurd h
 
-pub fork-right : {A : Type 0} (F : List ℕ) (f g : List ℕ → Answer A) (c : ℕ) (t : List ℕ) → T (not (member c F)) → fork F f g (c ∷ t) ≡ g (c ∷ t)
-fork-right F f g c t h = by (member c F) h
+pub fork_right : {A : Type 0} (F : List ℕ) (f g : List ℕ → Answer A) (c : ℕ) (t : List ℕ) → T (not (member c F)) → fork F f g (c ∷ t) ≡ g (c ∷ t)
+fork_right F f g c t h = by (member c F) h
   where
     by : (k : Bool) → T (not k) → cond k (f (c ∷ t)) (g (c ∷ t)) ≡ g (c ∷ t)
     by true h = absurd h
     by false h = refl
 
-pub heads-more : (F v w : List ℕ) → T (heads false F v) → T (heads false F (v ++ w))
-heads-more F [] w h = absurd h
-heads-more F (c ∷ v) w h = h
+pub heads_more : (F v w : List ℕ) → T (heads false F v) → T (heads false F (v ++ w))
+heads_more F [] w h = absurd h
+heads_more F (c ∷ v) w h = h
 
-pub heads-apart : {A : Type 0} (F G : List ℕ) (f g : List ℕ → Answer A) (v : List ℕ) → T (apart G F) → T (heads false G v) → fork F f g v ≡ g v
-heads-apart F G f g [] a h = absurd h
-heads-apart F G f g (c ∷ v) a h = fork-right F f g c v (apart-ok G F c a h)
+pub heads_apart : {A : Type 0} (F G : List ℕ) (f g : List ℕ → Answer A) (v : List ℕ) → T (apart G F) → T (heads false G v) → fork F f g v ≡ g v
+heads_apart F G f g [] a h = absurd h
+heads_apart F G f g (c ∷ v) a h = fork_right F f g c v (apart_ok G F c a h)
 
 -- the reader f at texts that begin with a byte that k accepts: good there, so good for any reader that agrees there
 module _ {A : Type 0} (In In' : A → List ℕ → Type 0) (f h : List ℕ → Answer A) (c : ℕ) (t : List ℕ) (same : (x : List ℕ) → h (c ∷ x) ≡ f (c ∷ x))
     (to : (a : A) (u : List ℕ) → In a u → In' a u) where
-  begins-same : (u r x : List ℕ) → u ++ r ≡ c ∷ t → Alike r x → h (u ++ x) ≡ f (u ++ x)
-  begins-same [] [] x e al = absurd al
-  begins-same [] (d ∷ r) [] e al = absurd al
-  begins-same [] (d ∷ r) (b ∷ x) e al = let z : b ≡ c = cc in rw z (same x)
-  begins-same (d ∷ u) r x e al = let z : d ≡ c = cc in rw z (same (u ++ x))
+  begins_same : (u r x : List ℕ) → u ++ r ≡ c ∷ t → Alike r x → h (u ++ x) ≡ f (u ++ x)
+  begins_same [] [] x e al = absurd al
+  begins_same [] (d ∷ r) [] e al = absurd al
+  begins_same [] (d ∷ r) (b ∷ x) e al = let z : b ≡ c = cc in rw z (same x)
+  begins_same (d ∷ u) r x e al = let z : d ≡ c = cc in rw z (same (u ++ x))
 
   pub moved : (p : Answer A) → Good In f (c ∷ t) p → Good In' h (c ∷ t) p
-  moved (got a r) g = record { text = g.text; is = to a g.text g.is; split = g.split; local = λ x al. begins-same g.text r x g.split al ∙ g.local x al }
+  moved (got a r) g = record { text = g.text; is = to a g.text g.is; split = g.split; local = λ x al. begins_same g.text r x g.split al ∙ g.local x al }
   moved (stuck r) g = record {
     text = g.text;
     split = g.split;
     value = g.value;
     more = g.more;
     is = to g.value (g.text ++ g.more) g.is;
-    local = λ x al. begins-same g.text r x g.split al ∙ g.local x al;
+    local = λ x al. begins_same g.text r x g.split al ∙ g.local x al;
   }
 
-pub member-left : (c : ℕ) (X Y : List ℕ) → T (member c X) → T (member c (X ++ Y))
-member-left c [] Y h = absurd h
-member-left c (x ∷ X) Y h = by (eqb c x) (member-left c X Y) h
+pub member_left : (c : ℕ) (X Y : List ℕ) → T (member c X) → T (member c (X ++ Y))
+member_left c [] Y h = absurd h
+member_left c (x ∷ X) Y h = by (eqb c x) (member_left c X Y) h
   where
     by : (k : Bool) → (T (member c X) → T (member c (X ++ Y))) → T (k || member c X) → T (k || member c (X ++ Y))
     by true f h = tt
@@ -221,40 +221,40 @@ member_right c (x ∷ X) Y h = by (eqb c x) (member_right c X Y h)
     by false h = h
 
 module _ {F G : List ℕ} {A : Type 0} {E : A → List ℕ} (P : Piece false F A E) (Q : Piece false G A E) (sep : T (apart G F)) where
-  abbrev pub either-in : A → List ℕ → Type 0
-  either-in a t = P.In a t ⊎ Q.In a t
+  abbrev pub either_in : A → List ℕ → Type 0
+  either_in a t = P.In a t ⊎ Q.In a t
 
-  abbrev pub either-read : List ℕ → Answer A
-  either-read = fork F P.read Q.read
+  abbrev pub either_read : List ℕ → Answer A
+  either_read = fork F P.read Q.read
 
-  pub either-good : (t : List ℕ) → Good either-in either-read t (either-read t)
-  either-good [] = record { text = []; split = refl; value = P.some.value; more = P.some.text; is = inl P.some.is; local = λ x al. absurd al }
-  either-good (c ∷ t) = by (member c F) (λ x. refl)
+  pub either_good : (t : List ℕ) → Good either_in either_read t (either_read t)
+  either_good [] = record { text = []; split = refl; value = P.some.value; more = P.some.text; is = inl P.some.is; local = λ x al. absurd al }
+  either_good (c ∷ t) = by (member c F) (λ x. refl)
     where
-      by : (k : Bool) → ((x : List ℕ) → either-read (c ∷ x) ≡ cond k (P.read (c ∷ x)) (Q.read (c ∷ x))) → Good either-in either-read (c ∷ t) (cond k (P.read (c ∷ t)) (Q.read (c ∷ t)))
-      by true e = moved P.In either-in P.read either-read c t e (λ a u i. inl i) (P.read (c ∷ t)) (P.good (c ∷ t))
-      by false e = moved Q.In either-in Q.read either-read c t e (λ a u i. inr i) (Q.read (c ∷ t)) (Q.good (c ∷ t))
+      by : (k : Bool) → ((x : List ℕ) → either_read (c ∷ x) ≡ cond k (P.read (c ∷ x)) (Q.read (c ∷ x))) → Good either_in either_read (c ∷ t) (cond k (P.read (c ∷ t)) (Q.read (c ∷ t)))
+      by true e = moved P.In either_in P.read either_read c t e (λ a u i. inl i) (P.read (c ∷ t)) (P.good (c ∷ t))
+      by false e = moved Q.In either_in Q.read either_read c t e (λ a u i. inr i) (Q.read (c ∷ t)) (Q.good (c ∷ t))
 
-  pub either-complete : (a : A) (u r : List ℕ) → either-in a u → T (stops (E a) r) → either-read (u ++ r) ≡ got a r
-  either-complete a u r (inl i) s = fork-left F P.read Q.read (u ++ r) (heads-more F u r (P.leads a u i)) ∙ P.complete a u r i s
-  either-complete a u r (inr i) s = heads-apart F G P.read Q.read (u ++ r) sep (heads-more G u r (Q.leads a u i)) ∙ Q.complete a u r i s
+  pub either_complete : (a : A) (u r : List ℕ) → either_in a u → T (stops (E a) r) → either_read (u ++ r) ≡ got a r
+  either_complete a u r (inl i) s = fork_left F P.read Q.read (u ++ r) (heads_more F u r (P.leads a u i)) ∙ P.complete a u r i s
+  either_complete a u r (inr i) s = heads_apart F G P.read Q.read (u ++ r) sep (heads_more G u r (Q.leads a u i)) ∙ Q.complete a u r i s
 
-  both-heads : (u : List ℕ) → T (heads false F u) ⊎ T (heads false G u) → T (heads false (F ++ G) u)
-  both-heads [] (inl h) = h
-  both-heads [] (inr h) = h
-  both-heads (c ∷ u) (inl h) = member-left c F G h
-  both-heads (c ∷ u) (inr h) = member_right c F G h
+  both_heads : (u : List ℕ) → T (heads false F u) ⊎ T (heads false G u) → T (heads false (F ++ G) u)
+  both_heads [] (inl h) = h
+  both_heads [] (inr h) = h
+  both_heads (c ∷ u) (inl h) = member_left c F G h
+  both_heads (c ∷ u) (inr h) = member_right c F G h
 
-  pub either-leads : (a : A) (u : List ℕ) → either-in a u → T (heads false (F ++ G) u)
-  either-leads a u (inl i) = both-heads u (inl (P.leads a u i))
-  either-leads a u (inr i) = both-heads u (inr (Q.leads a u i))
+  pub either_leads : (a : A) (u : List ℕ) → either_in a u → T (heads false (F ++ G) u)
+  either_leads a u (inl i) = both_heads u (inl (P.leads a u i))
+  either_leads a u (inr i) = both_heads u (inr (Q.leads a u i))
 
   abbrev pub either : Piece false (F ++ G) A E
   either = record {
-    In = either-in;
-    read = either-read;
-    good = either-good;
-    complete = either-complete;
-    leads = either-leads;
+    In = either_in;
+    read = either_read;
+    good = either_good;
+    complete = either_complete;
+    leads = either_leads;
     some = record { value = P.some.value; text = P.some.text; is = inl P.some.is };
   }

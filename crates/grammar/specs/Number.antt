@@ -6,7 +6,7 @@ use Rattle.std.proofs.Math.Dec.{eqb_refl, not_T}
 use Rattle.lexis.specs.Text.{bytes}
 use Rattle.meaning.specs.Decimal.{digits, decimal}
 use Rattle.numerals.specs.Numeral.{digit}
-use Rattle.grammar.specs.Tests.{and_left, and_right, every, and_in, is_true, T-not-eq, every-++}
+use Rattle.grammar.specs.Tests.{and_left, and_right, every, and_in, is_true, TNotEq, every-++}
 use Rattle.grammar.specs.Digits.{small, value, fuel, step, grows, canonical, digit_ok}
 use Rattle.grammar.specs.Piece.{member, stops, heads, Answer, got, stuck, Alike, Good, Some, Piece}
 use Rattle.grammar.specs.Join.{map, bind, either, restate}
@@ -44,9 +44,9 @@ digits_append (suc f) n ds es = go (ltb n 10) (digits_append f (n / 10) ((48 + n
     go false e = e
 
 -- ── classes ──
-pub member-every : (f : ℕ → Bool) (X : List ℕ) (c : ℕ) → T (every f X) → T (member c X) → T (f c)
-member-every f [] c h m = absurd m
-member-every f (x ∷ X) c h m = by (eqb c x) (eqb→eq c x) (member-every f X c (and_right (f x) (every f X) h)) m
+pub member_every : (f : ℕ → Bool) (X : List ℕ) (c : ℕ) → T (every f X) → T (member c X) → T (f c)
+member_every f [] c h m = absurd m
+member_every f (x ∷ X) c h m = by (eqb c x) (eqb→eq c x) (member_every f X c (and_right (f x) (every f X) h)) m
   where
     by : (k : Bool) → (T k → c ≡ x) → (T (member c X) → T (f c)) → T (k || member c X) → T (f c)
     by true e g m = subst (λ (z : ℕ). T (f z)) (sym (e tt)) (and_left (f x) (every f X) h)
@@ -56,25 +56,25 @@ abbrev up : ℕ → ℕ → List ℕ
 up k zero = []
 up k (suc n) = k ∷ up (suc k) n
 
-member-up : (n k c : ℕ) → k ≤ c → c < k + n → T (member c (up k n))
-member-up zero k c h g = let f : ⊥ = omega arith in absurd f
-member-up (suc n) k c h g = by (eqb c k) (λ q. eqb-refl' c k q) (λ p. member-up n (suc k) c p (omega arith))
+member_up : (n k c : ℕ) → k ≤ c → c < k + n → T (member c (up k n))
+member_up zero k c h g = let f : ⊥ = omega arith in absurd f
+member_up (suc n) k c h g = by (eqb c k) (λ q. eqb_refl' c k q) (λ p. member_up n (suc k) c p (omega arith))
   where
-    eqb-refl' : (c k : ℕ) → c ≡ k → T (eqb c k)
-    eqb-refl' c k e = rw e (eqb_refl k)
+    eqb_refl' : (c k : ℕ) → c ≡ k → T (eqb c k)
+    eqb_refl' c k e = rw e (eqb_refl k)
 
     by : (b : Bool) → (c ≡ k → T b) → (suc k ≤ c → T (member c (up (suc k) n))) → T (b || member c (up (suc k) n))
     by true f r = tt
     by false f r = r (let z : c ≡ k → ⊥ = λ e. f e in omega arith)
 
-pub nine-in : (c : ℕ) → T (member c nine) → T (leb 49 c && leb c 57)
-nine-in c h = member-every (λ x. leb 49 x && leb x 57) nine c tt h
+pub nine_in : (c : ℕ) → T (member c nine) → T (leb 49 c && leb c 57)
+nine_in c h = member_every (λ x. leb 49 x && leb x 57) nine c tt h
 
-pub in-nine : (c : ℕ) → 49 ≤ c → c ≤ 57 → T (member c nine)
-in-nine c h g = member-up 9 49 c h (omega arith)
+pub in_nine : (c : ℕ) → 49 ≤ c → c ≤ 57 → T (member c nine)
+in_nine c h g = member_up 9 49 c h (omega arith)
 
-pub in-ten : (c : ℕ) → T (digit c) → T (member c ten)
-in-ten c h = let p = leb→le 48 c (and_left (leb 48 c) (leb c 57) h) in let q = leb→le c 57 (and_right (leb 48 c) (leb c 57) h) in member-up 10 48 c p (omega arith)
+pub in_ten : (c : ℕ) → T (digit c) → T (member c ten)
+in_ten c h = let p = leb→le 48 c (and_left (leb 48 c) (leb c 57) h) in let q = leb→le c 57 (and_right (leb 48 c) (leb c 57) h) in member_up 10 48 c p (omega arith)
 
 -- one digit more
 snoc : (v c : ℕ) → 1 ≤ v → T (digit c) → digits (v * 10 + (c - 48)) (v * 10 + (c - 48)) [] ≡ digits v v [] ++ (c ∷ [])
@@ -131,22 +131,22 @@ module _ (lim : ℕ) where
   begins c t k = elim k [ true ↦ grow lim (c - 48) t | false ↦ stuck (c ∷ t) ]
 
   start : (c : ℕ) → T (member c nine) → digits (c - 48) (c - 48) [] ≡ c ∷ []
-  start c m = let h = nine-in c m in let lo = leb→le 49 c (and_left (leb 49 c) (leb c 57) h) in let hi = leb→le c 57 (and_right (leb 49 c) (leb c 57) h) in
+  start c m = let h = nine_in c m in let lo = leb→le 49 c (and_left (leb 49 c) (leb c 57) h) in let hi = leb→le c 57 (and_right (leb 49 c) (leb c 57) h) in
       canonical (c - 48) [] (omega arith) (omega arith) tt ∙ ap (λ (z : ℕ). z ∷ []) (omega arith)
 
   module _ (wide : T (ltb 9 lim)) where
     first_small : (c : ℕ) → T (member c nine) → c - 48 < lim
-    first_small c m = let h = nine-in c m in let hi = leb→le c 57 (and_right (leb 49 c) (leb c 57) h) in let w = ltb→lt 9 lim wide in omega arith
+    first_small c m = let h = nine_in c m in let hi = leb→le c 57 (and_right (leb 49 c) (leb c 57) h) in let w = ltb→lt 9 lim wide in omega arith
 
     first_some : (c : ℕ) → T (member c nine) → 1 ≤ c - 48
-    first_some c m = let h = nine-in c m in let lo = leb→le 49 c (and_left (leb 49 c) (leb c 57) h) in omega arith
+    first_some c m = let h = nine_in c m in let lo = leb→le 49 c (and_left (leb 49 c) (leb c 57) h) in omega arith
 
     abbrev pub one : Some (Count lim)
     one = record { value = 1; text = 49 ∷ []; is = record { some = le_refl 1; below = (let w = ltb→lt 9 lim wide in omega arith); text = refl } }
 
-    pub mag-good : (t : List ℕ) → Good (Count lim) (magnitude lim) t (magnitude lim t)
-    mag-good [] = record { text = []; split = refl; value = 1; more = 49 ∷ []; is = one.is; local = λ x al. absurd al }
-    mag-good (c ∷ t) = by (member c nine) refl
+    pub mag_good : (t : List ℕ) → Good (Count lim) (magnitude lim) t (magnitude lim t)
+    mag_good [] = record { text = []; split = refl; value = 1; more = 49 ∷ []; is = one.is; local = λ x al. absurd al }
+    mag_good (c ∷ t) = by (member c nine) refl
       where
         on : (m : T (member c nine)) → member c nine ≡ true → (p : Answer ℕ) → GrownTo (c - 48) t p → Good (Count lim) (magnitude lim) (c ∷ t) p
         on m e (got n r) g = record {
@@ -175,9 +175,9 @@ module _ (lim : ℕ) where
       pub sum : value lead tail ≡ n
       pub text : w ≡ (48 + lead) ∷ (tail ++ ds)
 
-    value-snoc : (v c : ℕ) (s : List ℕ) → value v (s ++ (c ∷ [])) ≡ value v s * 10 + (c - 48)
-    value-snoc v c [] = refl
-    value-snoc v c (x ∷ s) = value-snoc (v * 10 + (x - 48)) c s
+    value_snoc : (v c : ℕ) (s : List ℕ) → value v (s ++ (c ∷ [])) ≡ value v s * 10 + (c - 48)
+    value_snoc v c [] = refl
+    value_snoc v c (x ∷ s) = value_snoc (v * 10 + (x - 48)) c s
 
     figures : (f n : ℕ) (ds : List ℕ) → n ≤ f → 1 ≤ n → Figures n (digits f n ds) ds
     figures zero n ds h k = let f : ⊥ = omega arith in absurd f
@@ -193,34 +193,34 @@ module _ (lim : ℕ) where
           low = g.low;
           high = g.high;
           each = every-++ digit g.tail ((48 + n % 10) ∷ []) g.each (and_in (digit (48 + n % 10)) true (digit_ok (n % 10) (mod-lt n (zero-lt-suc 9))) tt);
-          sum = value-snoc g.lead (48 + n % 10) g.tail ∙ (let s = g.sum in let e = div-add-mod n 10 in omega arith);
+          sum = value_snoc g.lead (48 + n % 10) g.tail ∙ (let s = g.sum in let e = div-add-mod n 10 in omega arith);
           text = g.text ∙ ap (λ (z : List ℕ). (48 + g.lead) ∷ z) (sym (append_assoc g.tail ((48 + n % 10) ∷ []) ds));
         }
 
     taken : (s r : List ℕ) (v : ℕ) → T (every digit s) → value v s < lim → T (stops ten r) → grow lim v (s ++ r) ≡ got (value v s) r
     taken [] [] v e h p = refl
-    taken [] (c ∷ r) v e h p = ap (goes v c r) (T-not-eq (digit c && ltb (v * 10 + (c - 48)) lim)
-        (not_T (digit c && ltb (v * 10 + (c - 48)) lim) (λ k. T_not (member c ten) p (in-ten c (and_left (digit c) (ltb (v * 10 + (c - 48)) lim) k)))))
+    taken [] (c ∷ r) v e h p = ap (goes v c r) (TNotEq (digit c && ltb (v * 10 + (c - 48)) lim)
+        (not_T (digit c && ltb (v * 10 + (c - 48)) lim) (λ k. T_not (member c ten) p (in_ten c (and_left (digit c) (ltb (v * 10 + (c - 48)) lim) k)))))
     taken (c ∷ s) r v e h p = ap (goes v c (s ++ r)) (is_true (digit c && ltb (v * 10 + (c - 48)) lim)
         (and_in (digit c) (ltb (v * 10 + (c - 48)) lim) (and_left (digit c) (every digit s) e) (lt→ltb (v * 10 + (c - 48)) lim (let g = grows s (v * 10 + (c - 48)) in omega arith))))
         ∙ taken s r (v * 10 + (c - 48)) (and_right (digit c) (every digit s) e) h p
 
-    pub mag-complete : (n : ℕ) (u r : List ℕ) → Count lim n u → T (stops ten r) → magnitude lim (u ++ r) ≡ got n r
-    mag-complete n u r i p =
+    pub mag_complete : (n : ℕ) (u r : List ℕ) → Count lim n u → T (stops ten r) → magnitude lim (u ++ r) ≡ got n r
+    mag_complete n u r i p =
         let g = figures n n [] (le_refl n) i.some in
         ap (λ (z : List ℕ). magnitude lim (z ++ r)) (sym i.text ∙ g.text ∙ ap (λ (z : List ℕ). (48 + g.lead) ∷ z) (append-nil g.tail))
-        ∙ ap (begins (48 + g.lead) (g.tail ++ r)) (is_true (member (48 + g.lead) nine) (in-nine (48 + g.lead) (let l = g.low in omega arith) (let l = g.high in omega arith)))
+        ∙ ap (begins (48 + g.lead) (g.tail ++ r)) (is_true (member (48 + g.lead) nine) (in_nine (48 + g.lead) (let l = g.low in omega arith) (let l = g.high in omega arith)))
         ∙ ap (λ (z : ℕ). grow lim z (g.tail ++ r)) (omega arith)
         ∙ taken g.tail r g.lead g.each (subst (λ (z : ℕ). z < lim) (sym g.sum) i.below) p
         ∙ ap (λ (z : ℕ). got z r) g.sum
 
-    pub mag-leads : (n : ℕ) (u : List ℕ) → Count lim n u → T (heads false nine u)
-    mag-leads n u i =
+    pub mag_leads : (n : ℕ) (u : List ℕ) → Count lim n u → T (heads false nine u)
+    mag_leads n u i =
         let g = figures n n [] (le_refl n) i.some in
-        subst (λ (z : List ℕ). T (heads false nine z)) (sym g.text ∙ i.text) (in-nine (48 + g.lead) (let l = g.low in omega arith) (let l = g.high in omega arith))
+        subst (λ (z : List ℕ). T (heads false nine z)) (sym g.text ∙ i.text) (in_nine (48 + g.lead) (let l = g.low in omega arith) (let l = g.high in omega arith))
 
     abbrev pub mag : Piece false nine ℕ (λ n. ten)
-    mag = record { In = Count lim; read = magnitude lim; good = mag-good; complete = mag-complete; leads = mag-leads; some = one }
+    mag = record { In = Count lim; read = magnitude lim; good = mag_good; complete = mag_complete; leads = mag_leads; some = one }
 
 -- ── whole numbers: below p, or down to -q ──
 abbrev pub ranged : ℕ → ℕ → ℤ → Bool
@@ -231,28 +231,28 @@ abbrev pub minus : ℕ → ℤ
 minus zero = pos 0
 minus (suc n) = negsuc n
 
-abbrev pub digits-after : ℤ → List ℕ
-digits-after z = ten
+abbrev pub digits_after : ℤ → List ℕ
+digits_after z = ten
 
 pub record Decimal (p q : ℕ) (z : ℤ) (t : List ℕ) : Type 0 where
   pub fine : T (ranged p q z)
   pub text : decimal z ≡ t
 
 module _ (p q : ℕ) (wide : T (ltb 9 p)) (wide' : T (ltb 9 (suc q))) where
-  abbrev pub positive : Piece false nine ℤ digits-after
-  positive = map pos digits-after (mag p wide) (λ n. tt)
+  abbrev pub positive : Piece false nine ℤ digits_after
+  positive = map pos digits_after (mag p wide) (λ n. tt)
 
-  abbrev pub negative : Piece false (bytes "-") ℤ digits-after
-  negative = bind (table {A = Unit {0}} (λ a. []) (bytes "-") ((bytes "-" ↝ tt) ∷ []) tt) (λ a. false) (λ a. nine) (λ a. map minus digits-after (mag (suc q) wide') (λ n. tt)) (λ a. tt) (λ a b. absurd)
+  abbrev pub negative : Piece false (bytes "-") ℤ digits_after
+  negative = bind (table {A = Unit {0}} (λ a. []) (bytes "-") ((bytes "-" ↝ tt) ∷ []) tt) (λ a. false) (λ a. nine) (λ a. map minus digits_after (mag (suc q) wide') (λ n. tt)) (λ a. tt) (λ a b. absurd)
 
-  abbrev pub null : Piece false (bytes "0") ℤ digits-after
-  null = table digits-after (bytes "0") ((bytes "0" ↝ pos 0) ∷ []) tt
+  abbrev pub null : Piece false (bytes "0") ℤ digits_after
+  null = table digits_after (bytes "0") ((bytes "0" ↝ pos 0) ∷ []) tt
 
-  abbrev pub signed : Piece false (bytes "-" ++ (bytes "0" ++ nine)) ℤ digits-after
+  abbrev pub signed : Piece false (bytes "-" ++ (bytes "0" ++ nine)) ℤ digits_after
   signed = either negative (either null positive tt) tt
 
-  pub signed-to : (z : ℤ) (t : List ℕ) → signed.In z t → Decimal p q z t
-  signed-to z t (inl i) = by i.next.value i.next.says i.next.is i.is
+  pub signed_to : (z : ℤ) (t : List ℕ) → signed.In z t → Decimal p q z t
+  signed_to z t (inl i) = by i.next.value i.next.says i.next.is i.is
     where
       by : (n : ℕ) → minus n ≡ z → Count (suc q) n i.back → ((bytes "-" ≡ i.front) × (tt {0} ≡ i.value)) ⊎ ⊥ → Decimal p q z t
       by zero e c (inl f) = let s = c.some in let z : ⊥ = omega arith in absurd z
@@ -261,14 +261,14 @@ module _ (p q : ℕ) (wide : T (ltb 9 p)) (wide' : T (ltb 9 (suc q))) where
         text = ap decimal (sym e) ∙ ap (λ (w : List ℕ). 45 ∷ w) c.text ∙ ap (λ (w : List ℕ). w ++ i.back) f.0 ∙ i.split;
       }
       by n e c (inr f) = absurd f
-  signed-to z t (inr (inl (inl i))) = record { fine = subst (λ (z : ℤ). T (ranged p q z)) i.1 (lt→ltb 0 p (let w = ltb→lt 9 p wide in omega arith)); text = ap decimal (sym i.1) ∙ i.0 }
-  signed-to z t (inr (inl (inr i))) = absurd i
-  signed-to z t (inr (inr i)) = record { fine = subst (λ (z : ℤ). T (ranged p q z)) i.says (lt→ltb i.value p i.is.below); text = ap decimal (sym i.says) ∙ i.is.text }
+  signed_to z t (inr (inl (inl i))) = record { fine = subst (λ (z : ℤ). T (ranged p q z)) i.1 (lt→ltb 0 p (let w = ltb→lt 9 p wide in omega arith)); text = ap decimal (sym i.1) ∙ i.0 }
+  signed_to z t (inr (inl (inr i))) = absurd i
+  signed_to z t (inr (inr i)) = record { fine = subst (λ (z : ℤ). T (ranged p q z)) i.says (lt→ltb i.value p i.is.below); text = ap decimal (sym i.says) ∙ i.is.text }
 
-  pub signed-from : (z : ℤ) (t : List ℕ) → Decimal p q z t → signed.In z t
-  signed-from (pos zero) t d = inr (inl (inl (d.text, refl)))
-  signed-from (pos (suc n)) t d = inr (inr (record { value = suc n; is = record { some = omega arith; below = ltb→lt (suc n) p d.fine; text = d.text }; says = refl }))
-  signed-from (negsuc n) t d = inl (record {
+  pub signed_from : (z : ℤ) (t : List ℕ) → Decimal p q z t → signed.In z t
+  signed_from (pos zero) t d = inr (inl (inl (d.text, refl)))
+  signed_from (pos (suc n)) t d = inr (inr (record { value = suc n; is = record { some = omega arith; below = ltb→lt (suc n) p d.fine; text = d.text }; says = refl }))
+  signed_from (negsuc n) t d = inl (record {
     value = tt;
     front = 45 ∷ [];
     back = digits (suc n) (suc n) [];
@@ -277,5 +277,5 @@ module _ (p q : ℕ) (wide : T (ltb 9 p)) (wide' : T (ltb 9 (suc q))) where
     split = d.text;
   })
 
-  abbrev pub number : Piece false (bytes "-" ++ (bytes "0" ++ nine)) ℤ digits-after
-  number = restate signed (Decimal p q) signed-to signed-from
+  abbrev pub number : Piece false (bytes "-" ++ (bytes "0" ++ nine)) ℤ digits_after
+  number = restate signed (Decimal p q) signed_to signed_from

@@ -30,26 +30,26 @@ abbrev pub heads : Bool → List ℕ → List ℕ → Bool
 heads n F [] = n
 heads n F (c ∷ t) = member c F
 
-pub within-ok : (F E : List ℕ) (c : ℕ) → T (within F E) → T (member c F) → T (member c E)
-within-ok [] E c w m = absurd m
-within-ok (x ∷ F) E c w m = or_cases (eqb c x) (member c F)
+pub within_ok : (F E : List ℕ) (c : ℕ) → T (within F E) → T (member c F) → T (member c E)
+within_ok [] E c w m = absurd m
+within_ok (x ∷ F) E c w m = or_cases (eqb c x) (member c F)
     (λ e. subst (λ (z : ℕ). T (member z E)) (sym (eqb→eq c x e)) (and_left (member x E) (within F E) w))
-    (λ h. within-ok F E c (and_right (member x E) (within F E) w) h) m
+    (λ h. within_ok F E c (and_right (member x E) (within F E) w) h) m
 
-pub apart-ok : (F E : List ℕ) (c : ℕ) → T (apart F E) → T (member c F) → T (not (member c E))
-apart-ok [] E c w m = absurd m
-apart-ok (x ∷ F) E c w m = or_cases (eqb c x) (member c F)
+pub apart_ok : (F E : List ℕ) (c : ℕ) → T (apart F E) → T (member c F) → T (not (member c E))
+apart_ok [] E c w m = absurd m
+apart_ok (x ∷ F) E c w m = or_cases (eqb c x) (member c F)
     (λ e. subst (λ (z : ℕ). T (not (member z E))) (sym (eqb→eq c x e)) (and_left (not (member x E)) (apart F E) w))
-    (λ h. apart-ok F E c (and_right (not (member x E)) (apart F E) w) h) m
+    (λ h. apart_ok F E c (and_right (not (member x E)) (apart F E) w) h) m
 
-pub stops-within : (E E' r : List ℕ) → T (within E E') → T (stops E' r) → T (stops E r)
-stops-within E E' [] w s = tt
-stops-within E E' (c ∷ r) w s = not_T (member c E) (λ m. T_not (member c E') s (within-ok E E' c w m))
+pub stops_within : (E E' r : List ℕ) → T (within E E') → T (stops E' r) → T (stops E r)
+stops_within E E' [] w s = tt
+stops_within E E' (c ∷ r) w s = not_T (member c E) (λ m. T_not (member c E') s (within_ok E E' c w m))
 
 -- what stands after a text that is followed by v and then r
-pub stops-heads : (n : Bool) (F E E' v r : List ℕ) → T (apart F E) → (T n → T (within E E')) → T (heads n F v) → T (stops E' r) → T (stops E (v ++ r))
-stops-heads n F E E' [] r a w h s = stops-within E E' r (w h) s
-stops-heads n F E E' (c ∷ v) r a w h s = apart-ok F E c a h
+pub stops_heads : (n : Bool) (F E E' v r : List ℕ) → T (apart F E) → (T n → T (within E E')) → T (heads n F v) → T (stops E' r) → T (stops E (v ++ r))
+stops_heads n F E E' [] r a w h s = stops_within E E' r (w h) s
+stops_heads n F E E' (c ∷ v) r a w h s = apart_ok F E c a h
 
 -- ── answers ──
 -- a value and what follows its text; or what is left from the first byte on with which no text can go on
@@ -130,15 +130,15 @@ module _ {n : Bool} {F : List ℕ} {A : Type 0} {E : A → List ℕ} (P : Piece 
   pub one : (t : List ℕ) (a b : A) → P.In a t → P.In b t → a ≡ b
   one t a b i j = let e = whole t a i in let f = whole t b j in cc
 
-  alike-more : (r x m : List ℕ) → Alike r x → Alike r (x ++ m)
-  alike-more [] x m a = a
-  alike-more (c ∷ r) [] m a = absurd a
-  alike-more (c ∷ r) (d ∷ x) m a = a
+  alike_more : (r x m : List ℕ) → Alike r x → Alike r (x ++ m)
+  alike_more [] x m a = a
+  alike_more (c ∷ r) [] m a = absurd a
+  alike_more (c ∷ r) (d ∷ x) m a = a
 
-  not-empty : (r x m : List ℕ) → Alike r x → x ++ m ≡ [] → ⊥
-  not-empty [] x m a e = a
-  not-empty (c ∷ r) [] m a e = a
-  not-empty (c ∷ r) (d ∷ x) m a e = let z : ◌≡◌ {A = ℕ} 0 1 = cc in omega arith
+  not_empty : (r x m : List ℕ) → Alike r x → x ++ m ≡ [] → ⊥
+  not_empty [] x m a e = a
+  not_empty (c ∷ r) [] m a e = a
+  not_empty (c ∷ r) (d ∷ x) m a e = let z : ◌≡◌ {A = ℕ} 0 1 = cc in omega arith
 
   pub longest : (t : List ℕ) → Longest P.In t (left (P.read t))
   longest t = go (P.read t) (P.good t)
@@ -148,15 +148,15 @@ module _ {n : Bool} {F : List ℕ} {A : Type 0} {E : A → List ℕ} (P : Piece 
         text = f.text;
         split = f.split;
         begin = record { value = a; more = []; is = subst (P.In a) (sym (append-nil f.text)) f.is };
-        most = λ x al b. let e = f.local (x ++ b.more) (alike-more r x b.more al) in
+        most = λ x al b. let e = f.local (x ++ b.more) (alike_more r x b.more al) in
             let w = whole (f.text ++ (x ++ b.more)) b.value (subst (P.In b.value) (append_assoc f.text x b.more) b.is) in
-            not-empty r x b.more al (cc);
+            not_empty r x b.more al (cc);
       }
       go (stuck r) f = record {
         text = f.text;
         split = f.split;
         begin = record { value = f.value; more = f.more; is = f.is };
-        most = λ x al b. let e = f.local (x ++ b.more) (alike-more r x b.more al) in
+        most = λ x al b. let e = f.local (x ++ b.more) (alike_more r x b.more al) in
             let w = whole (f.text ++ (x ++ b.more)) b.value (subst (P.In b.value) (append_assoc f.text x b.more) b.is) in
             let z : ◌≡◌ {A = ℕ} 0 1 = cc in omega arith;
       }

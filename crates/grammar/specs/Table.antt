@@ -24,13 +24,13 @@ advance c [] = []
 advance c (e ∷ es) = rest_of c e.value e.word ++ advance c es
 
 -- the value of the first word that is at its end
-abbrev pub or-done : {A : Type 0} → A → Option A → List ℕ → Option A
-or-done a o [] = some a
-or-done a o (x ∷ w) = o
+abbrev pub or_done : {A : Type 0} → A → Option A → List ℕ → Option A
+or_done a o [] = some a
+or_done a o (x ∷ w) = o
 
 abbrev pub done : {A : Type 0} → List (Entry A) → Option A
 done [] = none
-done (e ∷ es) = or-done e.value (done es) e.word
+done (e ∷ es) = or_done e.value (done es) e.word
 
 abbrev pub settle : {A : Type 0} → Option A → List ℕ → Answer A
 settle none r = stuck r
@@ -44,9 +44,9 @@ abbrev pub Among : {A : Type 0} → List (Entry A) → A → List ℕ → Type 0
 Among [] a t = ⊥
 Among (e ∷ es) a t = ((e.word ≡ t) × (e.value ≡ a)) ⊎ Among es a t
 
-advance-out : {A : Type 0} (c : ℕ) (a : A) (t : List ℕ) (es : List (Entry A)) → Among (advance c es) a t → Among es a (c ∷ t)
-advance-out c a t [] i = i
-advance-out {A} c a t (e ∷ es) i = by e.word (advance-out c a t es) i
+advance_out : {A : Type 0} (c : ℕ) (a : A) (t : List ℕ) (es : List (Entry A)) → Among (advance c es) a t → Among es a (c ∷ t)
+advance_out c a t [] i = i
+advance_out {A} c a t (e ∷ es) i = by e.word (advance_out c a t es) i
   where
     by : (w : List ℕ) → (Among (advance c es) a t → Among es a (c ∷ t)) → Among (rest_of c e.value w ++ advance c es) a t → ((w ≡ c ∷ t) × (e.value ≡ a)) ⊎ Among es a (c ∷ t)
     by [] f i = inr (f i)
@@ -57,9 +57,9 @@ advance-out {A} c a t (e ∷ es) i = by e.word (advance-out c a t es) i
         on true q (inr p) = inr (f p)
         on false q p = inr (f p)
 
-advance-in : {A : Type 0} (c : ℕ) (a : A) (t : List ℕ) (es : List (Entry A)) → Among es a (c ∷ t) → Among (advance c es) a t
-advance-in c a t [] i = i
-advance-in {A} c a t (e ∷ es) i = by e.word (advance-in c a t es) i
+advance_in : {A : Type 0} (c : ℕ) (a : A) (t : List ℕ) (es : List (Entry A)) → Among es a (c ∷ t) → Among (advance c es) a t
+advance_in c a t [] i = i
+advance_in {A} c a t (e ∷ es) i = by e.word (advance_in c a t es) i
   where
     by : (w : List ℕ) → (Among es a (c ∷ t) → Among (advance c es) a t) → ((w ≡ c ∷ t) × (e.value ≡ a)) ⊎ Among es a (c ∷ t) → Among (rest_of c e.value w ++ advance c es) a t
     by [] f (inl p) = let g = p.0 in let z : ◌≡◌ {A = ℕ} 0 1 = cc in absurd (omega arith)
@@ -75,11 +75,11 @@ advance-in {A} c a t (e ∷ es) i = by e.word (advance-in c a t es) i
         on true = inr (f p)
         on false = f p
 
-done-out : {A : Type 0} (a : A) (es : List (Entry A)) → done es ≡ some a → Among es a []
-done-out a [] e = let z : ◌≡◌ {A = ℕ} 0 1 = cc in absurd (omega arith)
-done-out a (x ∷ es) e = by x.word (done-out a es) e
+done_out : {A : Type 0} (a : A) (es : List (Entry A)) → done es ≡ some a → Among es a []
+done_out a [] e = let z : ◌≡◌ {A = ℕ} 0 1 = cc in absurd (omega arith)
+done_out a (x ∷ es) e = by x.word (done_out a es) e
   where
-    by : (w : List ℕ) → (done es ≡ some a → Among es a []) → or-done x.value (done es) w ≡ some a → ((w ≡ []) × (x.value ≡ a)) ⊎ Among es a []
+    by : (w : List ℕ) → (done es ≡ some a → Among es a []) → or_done x.value (done es) w ≡ some a → ((w ≡ []) × (x.value ≡ a)) ⊎ Among es a []
     by [] f e = inl (refl, cc)
     by (y ∷ w) f e = inr (f e)
 
@@ -92,7 +92,7 @@ module _ {A : Type 0} where
   ends : (es : List (Entry A)) → Some (Among es) → (r : List ℕ) → ((x : List ℕ) → Alike r x → pick x es ≡ settle (done es) x) →
       (o : Option A) → done es ≡ o → Good (Among es) (λ x. pick x es) r (settle o r)
   ends es s r l none e = record { text = []; split = refl; value = s.value; more = s.text; is = s.is; local = λ x al. l x al ∙ ap (λ (z : Option A). settle z x) e }
-  ends es s r l (some a) e = record { text = []; is = done-out a es e; split = refl; local = λ x al. l x al ∙ ap (λ (z : Option A). settle z x) e }
+  ends es s r l (some a) e = record { text = []; is = done_out a es e; split = refl; local = λ x al. l x al ∙ ap (λ (z : Option A). settle z x) e }
 
   -- one byte more in front
   longer : (es fs : List (Entry A)) (c : ℕ) (t : List ℕ) → ((x : List ℕ) → pick (c ∷ x) es ≡ pick x fs) → ((a : A) (u : List ℕ) → Among fs a u → Among es a (c ∷ u)) →
@@ -107,9 +107,9 @@ module _ {A : Type 0} where
     local = λ x al. e (g.text ++ x) ∙ g.local x al;
   }
 
-  alike-one : (c : ℕ) (t x : List ℕ) (es : List (Entry A)) → advance c es ≡ [] → Alike (c ∷ t) x → pick x es ≡ settle (done es) x
-  alike-one c t [] es e al = absurd al
-  alike-one c t (d ∷ x) es e al = ap (λ (z : ℕ). onward es d x (advance z es)) (sym al) ∙ ap (onward es d x) e
+  alike_one : (c : ℕ) (t x : List ℕ) (es : List (Entry A)) → advance c es ≡ [] → Alike (c ∷ t) x → pick x es ≡ settle (done es) x
+  alike_one c t [] es e al = absurd al
+  alike_one c t (d ∷ x) es e al = ap (λ (z : ℕ). onward es d x (advance z es)) (sym al) ∙ ap (onward es d x) e
 
   pub pick_good : (t : List ℕ) (es : List (Entry A)) → Some (Among es) → Good (Among es) (λ x. pick x es) t (pick t es)
   pick_good [] es s = ends es s [] (λ x al. absurd al) (done es) refl
@@ -117,9 +117,9 @@ module _ {A : Type 0} where
     where
       by : (q : List (Entry A)) → advance c es ≡ q → ((e : Entry A) (fs : List (Entry A)) → Some (Among (e ∷ fs)) → Good (Among (e ∷ fs)) (λ x. pick x (e ∷ fs)) t (pick t (e ∷ fs))) →
           Good (Among es) (λ x. pick x es) (c ∷ t) (onward es c t q)
-      by [] e ih = ends es s (c ∷ t) (λ x al. alike-one c t x es e al) (done es) refl
+      by [] e ih = ends es s (c ∷ t) (λ x al. alike_one c t x es e al) (done es) refl
       by (f ∷ fs) e ih = longer es (f ∷ fs) c t (λ x. ap (onward es c x) e)
-          (λ a u i. advance-out c a u es (subst (λ (z : List (Entry A)). Among z a u) (sym e) i))
+          (λ a u i. advance_out c a u es (subst (λ (z : List (Entry A)). Among z a u) (sym e) i))
           (pick t (f ∷ fs)) (ih f fs (record { value = f.value; text = f.word; is = inl (refl, refl) }))
 
 -- ── each word is read: none ends like another, or goes on with a byte that is not in its set ──
@@ -134,9 +134,9 @@ module _ {A : Type 0} (X : List ℕ) (a : A) where
   Sole u [] = Unit {0}
   Sole u (e ∷ es) = Lone u e.word e.value × Sole u es
 
-  sole-advance : (c : ℕ) (u : List ℕ) (es : List (Entry A)) → Sole (c ∷ u) es → Sole u (advance c es)
-  sole-advance c u [] s = tt
-  sole-advance c u (e ∷ es) s = by e.word s.0 (sole-advance c u es s.1)
+  sole_advance : (c : ℕ) (u : List ℕ) (es : List (Entry A)) → Sole (c ∷ u) es → Sole u (advance c es)
+  sole_advance c u [] s = tt
+  sole_advance c u (e ∷ es) s = by e.word s.0 (sole_advance c u es s.1)
     where
       by : (w : List ℕ) → Lone (c ∷ u) w e.value → Sole u (advance c es) → Sole u (rest_of c e.value w ++ advance c es)
       by [] l s = s
@@ -146,18 +146,18 @@ module _ {A : Type 0} (X : List ℕ) (a : A) where
           on true f = (f tt, s)
           on false f = s
 
-  done-in : (es : List (Entry A)) → Among es a [] → Sole [] es → done es ≡ some a
-  done-in [] i s = absurd i
-  done-in (e ∷ es) i s = by e.word i s.0 (λ j. done-in es j s.1)
+  done_in : (es : List (Entry A)) → Among es a [] → Sole [] es → done es ≡ some a
+  done_in [] i s = absurd i
+  done_in (e ∷ es) i s = by e.word i s.0 (λ j. done_in es j s.1)
     where
-      by : (w : List ℕ) → ((w ≡ []) × (e.value ≡ a)) ⊎ Among es a [] → Lone [] w e.value → (Among es a [] → done es ≡ some a) → or-done e.value (done es) w ≡ some a
+      by : (w : List ℕ) → ((w ≡ []) × (e.value ≡ a)) ⊎ Among es a [] → Lone [] w e.value → (Among es a [] → done es ≡ some a) → or_done e.value (done es) w ≡ some a
       by [] i l f = ap some l
       by (x ∷ w) (inl p) l f = let q = p.0 in let z : ◌≡◌ {A = ℕ} 0 1 = cc in absurd (omega arith)
       by (x ∷ w) (inr p) l f = f p
 
-  advance-none : (d : ℕ) (es : List (Entry A)) → T (not (member d X)) → Sole [] es → advance d es ≡ []
-  advance-none d [] h s = refl
-  advance-none d (e ∷ es) h s = by e.word s.0 (advance-none d es h s.1)
+  advance_none : (d : ℕ) (es : List (Entry A)) → T (not (member d X)) → Sole [] es → advance d es ≡ []
+  advance_none d [] h s = refl
+  advance_none d (e ∷ es) h s = by e.word s.0 (advance_none d es h s.1)
     where
       by : (w : List ℕ) → Lone [] w e.value → advance d es ≡ [] → rest_of d e.value w ++ advance d es ≡ []
       by [] l f = f
@@ -167,10 +167,10 @@ module _ {A : Type 0} (X : List ℕ) (a : A) where
           on true g = absurd (g tt)
           on false g = f
 
-  pub pick-complete : (u r : List ℕ) (es : List (Entry A)) → Among es a u → Sole u es → T (stops X r) → pick (u ++ r) es ≡ got a r
-  pick-complete [] [] es i s h = ap (λ (z : Option A). settle z []) (done-in es i s)
-  pick-complete [] (d ∷ r) es i s h = ap (onward es d r) (advance-none d es h s) ∙ ap (λ (z : Option A). settle z (d ∷ r)) (done-in es i s)
-  pick-complete (c ∷ u) r es i s h = onto (advance c es) (advance-in c a u es i) ∙ pick-complete u r (advance c es) (advance-in c a u es i) (sole-advance c u es s) h
+  pub pick_complete : (u r : List ℕ) (es : List (Entry A)) → Among es a u → Sole u es → T (stops X r) → pick (u ++ r) es ≡ got a r
+  pick_complete [] [] es i s h = ap (λ (z : Option A). settle z []) (done_in es i s)
+  pick_complete [] (d ∷ r) es i s h = ap (onward es d r) (advance_none d es h s) ∙ ap (λ (z : Option A). settle z (d ∷ r)) (done_in es i s)
+  pick_complete (c ∷ u) r es i s h = onto (advance c es) (advance_in c a u es i) ∙ pick_complete u r (advance c es) (advance_in c a u es i) (sole_advance c u es s) h
     where
       onto : (q : List (Entry A)) → Among q a u → onward es c (u ++ r) q ≡ pick (u ++ r) q
       onto [] i = absurd i
@@ -188,40 +188,40 @@ pairs E [] = true
 pairs E (e ∷ es) = every (λ f. fits (E e.value) (E f.value) e.word f.word) es && pairs E es
 
 module _ {A : Type 0} (X Y : List ℕ) (a v : A) where
-  fits-left : (u w : List ℕ) → T (fits X Y u w) → Lone X a u w v
-  fits-left [] [] h = absurd h
-  fits-left [] (c ∷ w) h = h
-  fits-left (x ∷ u) [] h = tt
-  fits-left (x ∷ u) (y ∷ w) h = λ k. fits-left u w (by (eqb x y) (subst (λ (z : ℕ). T (eqb z y)) (eqb→eq y x k) (eqb_refl y)) h)
+  fits_left : (u w : List ℕ) → T (fits X Y u w) → Lone X a u w v
+  fits_left [] [] h = absurd h
+  fits_left [] (c ∷ w) h = h
+  fits_left (x ∷ u) [] h = tt
+  fits_left (x ∷ u) (y ∷ w) h = λ k. fits_left u w (by (eqb x y) (subst (λ (z : ℕ). T (eqb z y)) (eqb→eq y x k) (eqb_refl y)) h)
     where
       by : (k : Bool) → T k → T (cond k (fits X Y u w) true) → T (fits X Y u w)
       by true t h = h
       by false t h = absurd t
 
-  fits-right : (w u : List ℕ) → T (fits X Y w u) → Lone Y a u w v
-  fits-right [] [] h = absurd h
-  fits-right (c ∷ w) [] h = h
-  fits-right [] (x ∷ u) h = tt
-  fits-right (y ∷ w) (x ∷ u) h = λ k. fits-right w u (by (eqb y x) k h)
+  fits_right : (w u : List ℕ) → T (fits X Y w u) → Lone Y a u w v
+  fits_right [] [] h = absurd h
+  fits_right (c ∷ w) [] h = h
+  fits_right [] (x ∷ u) h = tt
+  fits_right (y ∷ w) (x ∷ u) h = λ k. fits_right w u (by (eqb y x) k h)
     where
       by : (k : Bool) → T k → T (cond k (fits X Y w u) true) → T (fits X Y w u)
       by true t h = h
       by false t h = absurd t
 
-lone-self : {A : Type 0} (X u : List ℕ) (a v : A) → v ≡ a → Lone X a u u v
-lone-self X [] a v e = e
-lone-self X (x ∷ u) a v e = λ k. lone-self X u a v e
+lone_self : {A : Type 0} (X u : List ℕ) (a v : A) → v ≡ a → Lone X a u u v
+lone_self X [] a v e = e
+lone_self X (x ∷ u) a v e = λ k. lone_self X u a v e
 
 module _ {A : Type 0} (E : A → List ℕ) (F : List ℕ) (es : List (Entry A)) where
-  pub among-every : (f : Entry A → Bool) (fs : List (Entry A)) (a : A) (u : List ℕ) → T (every f fs) → Among fs a u → T (f (u ↝ a))
-  among-every f [] a u h i = absurd i
-  among-every f (e ∷ fs) a u h (inl p) = subst (λ (z : Entry A). T (f z)) (λ i. record { word = p.0 i; value = p.1 i }) (and_left (f e) (every f fs) h)
-  among-every f (e ∷ fs) a u h (inr p) = among-every f fs a u (and_right (f e) (every f fs) h) p
+  pub among_every : (f : Entry A → Bool) (fs : List (Entry A)) (a : A) (u : List ℕ) → T (every f fs) → Among fs a u → T (f (u ↝ a))
+  among_every f [] a u h i = absurd i
+  among_every f (e ∷ fs) a u h (inl p) = subst (λ (z : Entry A). T (f z)) (λ i. record { word = p.0 i; value = p.1 i }) (and_left (f e) (every f fs) h)
+  among_every f (e ∷ fs) a u h (inr p) = among_every f fs a u (and_right (f e) (every f fs) h) p
 
   others : (e : Entry A) (fs : List (Entry A)) → T (every (λ f. fits (E e.value) (E f.value) e.word f.word) fs) → Sole (E e.value) e.value e.word fs
   others e [] h = tt
   others e (f ∷ fs) h = (
-    fits-left (E e.value) (E f.value) e.value f.value e.word f.word
+    fits_left (E e.value) (E f.value) e.value f.value e.word f.word
         (and_left (fits (E e.value) (E f.value) e.word f.word) (every (λ f. fits (E e.value) (E f.value) e.word f.word) fs) h),
     others e fs (and_right (fits (E e.value) (E f.value) e.word f.word) (every (λ f. fits (E e.value) (E f.value) e.word f.word) fs) h),
   )
@@ -230,9 +230,9 @@ module _ {A : Type 0} (E : A → List ℕ) (F : List ℕ) (es : List (Entry A)) 
   sole [] a u h i = absurd i
   sole (e ∷ fs) a u h (inl p) =
       subst (λ (z : Entry A). Sole (E z.value) z.value z.word (e ∷ fs)) (λ i. record { word = p.0 i; value = p.1 i })
-      (lone-self (E e.value) e.word e.value e.value refl, others e fs (and_left (every (λ f. fits (E e.value) (E f.value) e.word f.word) fs) (pairs E fs) h))
+      (lone_self (E e.value) e.word e.value e.value refl, others e fs (and_left (every (λ f. fits (E e.value) (E f.value) e.word f.word) fs) (pairs E fs) h))
   sole (e ∷ fs) a u h (inr p) = (
-    fits-right (E e.value) (E a) a e.value e.word u (among-every (λ f. fits (E e.value) (E f.value) e.word f.word) fs a u
+    fits_right (E e.value) (E a) a e.value e.word u (among_every (λ f. fits (E e.value) (E f.value) e.word f.word) fs a u
         (and_left (every (λ f. fits (E e.value) (E f.value) e.word f.word) fs) (pairs E fs) h) p),
     sole fs a u (and_right (every (λ f. fits (E e.value) (E f.value) e.word f.word) fs) (pairs E fs) h) p,
   )
@@ -246,10 +246,10 @@ module _ {A : Type 0} (E : A → List ℕ) (F : List ℕ) (es : List (Entry A)) 
   any (e ∷ fs) h = record { value = e.value; text = e.word; is = inl (refl, refl) }
 
   -- E: after which word which bytes may go on; F: the first bytes
-  abbrev pub sound-table : Bool
-  sound-table = filled es && (every (λ e. heads false F e.word) es && pairs E es)
+  abbrev pub sound_table : Bool
+  sound_table = filled es && (every (λ e. heads false F e.word) es && pairs E es)
 
-  abbrev pub table : T sound-table → Piece false F A E
+  abbrev pub table : T sound_table → Piece false F A E
   table h =
       let a1 = and_left (filled es) (every (λ e. heads false F e.word) es && pairs E es) h in
       let a2 = and_right (filled es) (every (λ e. heads false F e.word) es && pairs E es) h in
@@ -259,7 +259,7 @@ module _ {A : Type 0} (E : A → List ℕ) (F : List ℕ) (es : List (Entry A)) 
         In = Among es;
         read = λ x. pick x es;
         good = λ t. pick_good t es (any es a1);
-        complete = λ a u r i s. pick-complete (E a) a u r es i (sole es a u a4 i) s;
-        leads = λ a u i. among-every (λ e. heads false F e.word) es a u a3 i;
+        complete = λ a u r i s. pick_complete (E a) a u r es i (sole es a u a4 i) s;
+        leads = λ a u i. among_every (λ e. heads false F e.word) es a u a3 i;
         some = any es a1;
       }

@@ -30,21 +30,21 @@ pub is_true : (k : Bool) → T k → k ≡ true
 is_true true h = refl
 is_true false h = absurd h
 
-pub T-not-eq : (k : Bool) → T (not k) → k ≡ false
-T-not-eq true h = absurd h
-T-not-eq false h = refl
+pub TNotEq : (k : Bool) → T (not k) → k ≡ false
+TNotEq true h = absurd h
+TNotEq false h = refl
 
 -- ── of lists ──
 module _ {A : Type 0} where
-  pub every-mono : (f g : A → Bool) → ((a : A) → T (f a) → T (g a)) → (l : List A) → T (every f l) → T (every g l)
-  every-mono f g i [] h = tt
-  every-mono f g i (a ∷ l) h = and_in (g a) (every g l) (i a (and_left (f a) (every f l) h)) (every-mono f g i l (and_right (f a) (every f l) h))
+  pub every_mono : (f g : A → Bool) → ((a : A) → T (f a) → T (g a)) → (l : List A) → T (every f l) → T (every g l)
+  every_mono f g i [] h = tt
+  every_mono f g i (a ∷ l) h = and_in (g a) (every g l) (i a (and_left (f a) (every f l) h)) (every_mono f g i l (and_right (f a) (every f l) h))
 
   pub every-++ : (f : A → Bool) (k l : List A) → T (every f k) → T (every f l) → T (every f (k ++ l))
   every-++ f [] l h j = j
   every-++ f (a ∷ k) l h j = and_in (f a) (every f (k ++ l)) (and_left (f a) (every f k) h) (every-++ f k l (and_right (f a) (every f k) h) j)
 
-  pub every-nth : (f : A → Bool) (a : A) → T (f a) → (l : List A) → T (every f l) → (i : ℕ) → T (f (nth a l i))
-  every-nth f a n [] h i = n
-  every-nth f a n (x ∷ l) h zero = and_left (f x) (every f l) h
-  every-nth f a n (x ∷ l) h (suc i) = every-nth f a n l (and_right (f x) (every f l) h) i
+  pub every_nth : (f : A → Bool) (a : A) → T (f a) → (l : List A) → T (every f l) → (i : ℕ) → T (f (nth a l i))
+  every_nth f a n [] h i = n
+  every_nth f a n (x ∷ l) h zero = and_left (f x) (every f l) h
+  every_nth f a n (x ∷ l) h (suc i) = every_nth f a n l (and_right (f x) (every f l) h) i

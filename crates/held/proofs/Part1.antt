@@ -8,8 +8,8 @@ use Rattle.meaning.specs.declared.Padding.TheVariants as P
 use Rattle.meaning.specs.declared.Refusal.TheVariants as R
 use mathlib.Core.Bool.{true, false}
 
-abbrev pub part-1 : List Row
-part-1 =
+abbrev pub part_1 : List Row
+part_1 =
     row "tile<f32>junk" (type K.Tile S.F32 false false [] [] [] [] [] (pos 0) P.Absent 0 0 0 0) ∷
     row "tile<f<xf32>" (type K.Tile S.F32 false false (DYN ∷ []) [] [] [] [] (pos 0) P.Absent 1 0 0 0) ∷
     row "tile<xxf32>" (type K.Tile S.F32 false false (DYN ∷ DYN ∷ []) [] [] [] [] (pos 0) P.Absent 2 0 0 0) ∷

@@ -8,8 +8,8 @@ use Rattle.meaning.specs.declared.Padding.TheVariants as P
 use Rattle.meaning.specs.declared.Refusal.TheVariants as R
 use mathlib.Core.Bool.{true, false}
 
-abbrev pub part-2 : List Row
-part-2 =
+abbrev pub part_2 : List Row
+part_2 =
     row "tensor_view<f32, strides=[-9223372036854775808,9223372036854775807]>" (type K.TensorView S.F32 false false [] (DYN ∷ pos 9223372036854775807 ∷ []) [] [] [] (pos 0) P.Absent 0 0 0 0) ∷
     row "tensor_view<f32, strides=[-9223372036854775809,9223372036854775808]>" (type K.TensorView S.F32 false false [] (DYN ∷ DYN ∷ []) [] [] [] (pos 0) P.Absent 2 0 0 0) ∷
     row "partition_view<tile=(2147483647), tensor_view<f32>, dim_map=[2147483647]>" (type K.Partition S.F32 false false [] [] (pos 2147483647 ∷ []) (pos 2147483647 ∷ []) [] (pos 0) P.Absent 0 0 0 0) ∷

@@ -8,8 +8,8 @@ use Rattle.meaning.specs.declared.Padding.TheVariants as P
 use Rattle.meaning.specs.declared.Refusal.TheVariants as R
 use mathlib.Core.Bool.{true, false}
 
-abbrev pub part-3 : List Row
-part-3 =
+abbrev pub part_3 : List Row
+part_3 =
     row "ptr<f32>junk" (type K.Pointer S.F32 false false [] [] [] [] [] (pos 0) P.Absent 0 0 0 0) ∷
     row "ptr<ptr<f32>>" (refused R.NoType 0) ∷
     row "!cuda_tile.ptr<f32>" (type K.Pointer S.F32 false false [] [] [] [] [] (pos 0) P.Absent 0 0 0 0) ∷

@@ -8,8 +8,8 @@ use Rattle.meaning.specs.declared.Padding.TheVariants as P
 use Rattle.meaning.specs.declared.Refusal.TheVariants as R
 use mathlib.Core.Bool.{true, false}
 
-abbrev pub part-4 : List Row
-part-4 =
+abbrev pub part_4 : List Row
+part_4 =
     row "tensor_view<4xf32, strides=[,]>" (type K.TensorView S.F32 false false (pos 4 ∷ []) (DYN ∷ DYN ∷ []) [] [] [] (pos 0) P.Absent 2 0 0 0) ∷
     row "tensor_view<4xf32, strides=[1,,2]>" (type K.TensorView S.F32 false false (pos 4 ∷ []) (pos 1 ∷ DYN ∷ pos 2 ∷ []) [] [] [] (pos 0) P.Absent 1 0 0 0) ∷
     row "tensor_view<4xf32, strides=[ ? , 8 ]>" (type K.TensorView S.F32 false false (pos 4 ∷ []) (DYN ∷ pos 8 ∷ []) [] [] [] (pos 0) P.Absent 0 0 0 0) ∷

@@ -8,8 +8,8 @@ use Rattle.meaning.specs.declared.Padding.TheVariants as P
 use Rattle.meaning.specs.declared.Refusal.TheVariants as R
 use mathlib.Core.Bool.{true, false}
 
-abbrev pub part-5 : List Row
-part-5 =
+abbrev pub part_5 : List Row
+part_5 =
     row "partition_view<tile=(2), tensor_view<f32>, dim_map=[1], dim_map=[2>" (type K.Partition S.F32 false false [] [] (pos 2 ∷ []) (pos 1 ∷ []) [] (pos 0) P.Absent 0 0 0 0) ∷
     row "partition_view<tile=(2), tensor_view<f32>, dim_map=[dim_map=[2]>" (type K.Partition S.F32 false false [] [] (pos 2 ∷ []) (pos 0 ∷ []) [] (pos 0) P.Absent 0 0 1 0) ∷
     row "partition_view<tile=(2), tensor_view<f32>, dim_map=[1,a,,-1, 2 ]>" (type K.Partition S.F32 false false [] [] (pos 2 ∷ []) (pos 1 ∷ pos 0 ∷ pos 0 ∷ negsuc 0 ∷ pos 2 ∷ []) [] (pos 0) P.Absent 0 0 2 0) ∷

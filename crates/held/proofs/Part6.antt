@@ -8,8 +8,8 @@ use Rattle.meaning.specs.declared.Padding.TheVariants as P
 use Rattle.meaning.specs.declared.Refusal.TheVariants as R
 use mathlib.Core.Bool.{true, false}
 
-abbrev pub part-6 : List Row
-part-6 =
+abbrev pub part_6 : List Row
+part_6 =
     row "token,, #cuda_tile.ptr_attr<none> #cuda_tile.ptr_attr<none>" (type K.Token S.I1 false true [] [] [] [] [] (pos 0) P.Absent 0 0 0 0) ∷
     row "token, #cuda_tile.ptr_attr<none, #cuda_tile.ptr_attr<none>>" (type K.Token S.I1 false true [] [] [] [] [] (pos 0) P.Absent 0 0 0 0) ∷
     row "token, #cuda_tile.ptr_attr<none, #cuda_tile.ptr_attr<none>>, #cuda_tile.ptr_attr<none>" (type K.Token S.I1 false true [] [] [] [] [] (pos 0) P.Absent 0 0 0 0) ∷

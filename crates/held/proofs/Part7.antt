@@ -8,8 +8,8 @@ use Rattle.meaning.specs.declared.Padding.TheVariants as P
 use Rattle.meaning.specs.declared.Refusal.TheVariants as R
 use mathlib.Core.Bool.{true, false}
 
-abbrev pub part-7 : List Row
-part-7 =
+abbrev pub part_7 : List Row
+part_7 =
     row "tensor_view<f32, strides=[1,1,1,1,1,1,1,1,1,1,1,1,1,1,1,1,1]>" (refused R.TooMany 0) ∷
     row "partition_view<tile=(1x1x1x1x1x1x1x1x1x1x1x1x1x1x1x1x1), tensor_view<f32>>" (refused R.TooMany 0) ∷
     row "gather_scatter_view<tile=(1,1,1,1,1,1,1,1,1,1,1,1,1,1,1,1,1), tensor_view<f32>>" (refused R.TooMany 0) ∷

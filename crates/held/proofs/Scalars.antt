@@ -3,7 +3,7 @@ use mathlib.Core.Path.{◌≡◌, refl}
 use mathlib.Core.Bool.{true, false, not}
 use mathlib.Core.List as L
 use mathlib.Core.List.{List, [], ◌∷◌}
-use Rattle.scalars.specs.Names.{byte_width, integer, bit-width}
+use Rattle.scalars.specs.Names.{byte_width, integer, bit_width}
 use Rattle.scalars.specs.declared.scalar.Scalar.{Scalar}
 use Rattle.scalars.specs.declared.scalar.Scalar.TheVariants as S
 
@@ -19,5 +19,5 @@ integers = refl
 pub floats : L.map (λ s. not (integer s)) all ≡ false ∷ false ∷ false ∷ false ∷ false ∷ false ∷ true ∷ true ∷ true ∷ true ∷ true ∷ true ∷ true ∷ true ∷ true ∷ true ∷ []
 floats = refl
 
-pub bits : L.map bit-width all ≡ 1 ∷ 4 ∷ 8 ∷ 16 ∷ 32 ∷ 64 ∷ 16 ∷ 16 ∷ 32 ∷ 32 ∷ 64 ∷ 8 ∷ 8 ∷ 8 ∷ 4 ∷ 8 ∷ []
+pub bits : L.map bit_width all ≡ 1 ∷ 4 ∷ 8 ∷ 16 ∷ 32 ∷ 64 ∷ 16 ∷ 16 ∷ 32 ∷ 32 ∷ 64 ∷ 8 ∷ 8 ∷ 8 ∷ 4 ∷ 8 ∷ []
 bits = refl

@@ -12,21 +12,21 @@ use lib.ListN.{length, take, drop, get_or, length-drop, drop_of_length-le}
 use lib.Seq.{drop-drop, get_or-drop}
 use Rattle.lexis.specs.Text.{if◌then◌else◌, begins, Cut, nowhere, at, later, cut, place, some_of, until}
 use Rattle.lexis.proofs.Lists.{view}
-use Rattle.lexis.proofs.Seeking.{never, shifted, miss, until-within}
+use Rattle.lexis.proofs.Seeking.{never, shifted, miss, until_within}
 
 module _ (p : ℕ → Bool) where
-  or-last : (a b c : Bool) → a || (b || c) ≡ (a || b) || c
-  or-last true b c = refl
-  or-last false b c = refl
+  or_last : (a b c : Bool) → a || (b || c) ≡ (a || b) || c
+  or_last true b c = refl
+  or_last false b c = refl
 
-  or-false : (a : Bool) → a || false ≡ false || a
-  or-false true = refl
-  or-false false = refl
+  or_false : (a : Bool) → a || false ≡ false || a
+  or_false true = refl
+  or_false false = refl
 
   one_more : (l : List ℕ) (j : ℕ) → j < length l → some_of p (take (suc j) l) ≡ some_of p (take j l) || p (get_or l j 0)
   one_more [] j h = let f : ⊥ = omega arith in absurd f
-  one_more (x ∷ l) zero h = or-false (p x)
-  one_more (x ∷ l) (suc j) h = ap (λ (z : Bool). p x || z) (one_more l j (omega arith)) ∙ or-last (p x) (some_of p (take j l)) (p (get_or l j 0))
+  one_more (x ∷ l) zero h = or_false (p x)
+  one_more (x ∷ l) (suc j) h = ap (λ (z : Bool). p x || z) (one_more l j (omega arith)) ∙ or_last (p x) (some_of p (take j l)) (p (get_or l j 0))
 
   -- with one byte more
   pub grown : (s : List ℕ) (m j : ℕ) → m + j < length s → some_of p (take (j + 1) (drop m s)) ≡ some_of p (take j (drop m s)) || p (get_or s (m + j) 0)
@@ -79,20 +79,20 @@ module _ (p : ℕ → Bool) where
 
 -- ── a byte of a text is sought before the text ──
 
-pub shifted-twice : (i j : ℕ) (o : Option ℕ) → shifted i (shifted j o) ≡ shifted (i + j) o
-shifted-twice i j none = refl
-shifted-twice i j (some n) = ap some (omega arith)
+pub shifted_twice : (i j : ℕ) (o : Option ℕ) → shifted i (shifted j o) ≡ shifted (i + j) o
+shifted_twice i j none = refl
+shifted_twice i j (some n) = ap some (omega arith)
 
 pub one_later : (b : ℕ) (c : Cut) → place (later b c) ≡ shifted 1 (place c)
 one_later b nowhere = refl
 one_later b (at u t) = ap some (omega arith)
 
 -- no text stands where it differs by a byte
-byte-off : (p l : List ℕ) (k : ℕ) → k < length p → k < length l → eqb (get_or p k 0) (get_or l k 0) ≡ false → begins p l ≡ false
-byte-off [] l k h g e = let f : ⊥ = omega arith in absurd f
-byte-off (c ∷ p) [] k h g e = refl
-byte-off (c ∷ p) (b ∷ l) zero h g e = ap (λ (d : Bool). d && begins p l) e
-byte-off (c ∷ p) (b ∷ l) (suc k) h g e = ap (λ (d : Bool). eqb c b && d) (byte-off p l k (omega arith) (omega arith) e) ∙ never (eqb c b)
+byte_off : (p l : List ℕ) (k : ℕ) → k < length p → k < length l → eqb (get_or p k 0) (get_or l k 0) ≡ false → begins p l ≡ false
+byte_off [] l k h g e = let f : ⊥ = omega arith in absurd f
+byte_off (c ∷ p) [] k h g e = refl
+byte_off (c ∷ p) (b ∷ l) zero h g e = ap (λ (d : Bool). d && begins p l) e
+byte_off (c ∷ p) (b ∷ l) (suc k) h g e = ap (λ (d : Bool). eqb c b && d) (byte_off p l k (omega arith) (omega arith) e) ∙ never (eqb c b)
 
 module _ (p s : List ℕ) (k : ℕ) (h : k < length p) where
   abbrev from : ℕ → Option ℕ
@@ -110,7 +110,7 @@ module _ (p s : List ℕ) (k : ℕ) (h : k < length p) where
       seen = e ∙ view s (a + k) inside
 
       off : eqb (get_or p k 0) b ≡ false → begins p (drop a s) ≡ false
-      off f = byte-off p (drop a s) k h (let l = length-drop a s in let m = inside in omega arith)
+      off f = byte_off p (drop a s) k h (let l = length-drop a s in let m = inside in omega arith)
           (ap (λ (x : ℕ). eqb (get_or p k 0) x) (get_or-drop a s k 0 ∙ sym (ap (λ (l : List ℕ). get_or l 0 0) seen)) ∙ f)
 
       by : (d : Bool) → eqb (get_or p k 0) b ≡ d → (t ≡ drop (a + 1 + k) s → from (a + 1) ≡ from (a + 1 + length (until (eqb (get_or p k 0)) t)))
@@ -126,5 +126,5 @@ module _ (p s : List ℕ) (k : ℕ) (h : k < length p) where
       ∙ ap from {x = a + length (until (eqb (get_or p k 0)) (drop i s))} {y = j - k} (omega arith)
 
 -- and not past the end
-pub sought-within : (p : ℕ → Bool) (s : List ℕ) (k i : ℕ) → k ≤ length s → i ≡ k + length (until p (drop k s)) → i ≤ length s
-sought-within p s k i h e = let a = until-within p (drop k s) in let b = length-drop k s in omega arith
+pub sought_within : (p : ℕ → Bool) (s : List ℕ) (k i : ℕ) → k ≤ length s → i ≡ k + length (until p (drop k s)) → i ≤ length s
+sought_within p s k i h e = let a = until_within p (drop k s) in let b = length-drop k s in omega arith

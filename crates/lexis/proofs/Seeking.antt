@@ -25,8 +25,8 @@ module _ (p s : List ℕ) (j k : ℕ) (h : j < length p) where
   pub agrees : k < length s → get_or p j 0 ≡ get_or s k 0 → begins (drop j p) (drop k s) ≡ begins (drop (j + 1) p) (drop (k + 1) s)
   agrees l e = rw (view p j h, view s k l, eq-eqb (get_or p j 0) (get_or s k 0) e)
 
-pub all-passed : (p t : List ℕ) (j : ℕ) → length p ≤ j → begins (drop j p) t ≡ true
-all-passed p t j l = rw (drop_of_length-le p l)
+pub all_passed : (p t : List ℕ) (j : ℕ) → length p ≤ j → begins (drop j p) t ≡ true
+all_passed p t j l = rw (drop_of_length-le p l)
 
 -- ── equality ──
 
@@ -83,9 +83,9 @@ module _ (p s : List ℕ) (i : ℕ) where
   pub gone : length s ≤ i → begins p (drop i s) ≡ false → shifted i (place (cut p (drop i s))) ≡ none
   gone h e = rw (drop_of_length-le s h) (rw (rw (drop_of_length-le s h) at e))
 
-pub nothing-sought : (p s : List ℕ) → length p ≡ 0 → some 0 ≡ place (cut p s)
-nothing-sought [] s z = sym (here [] s refl)
-nothing-sought (c ∷ p) s z = let f : ⊥ = omega arith in absurd f
+pub nothing_sought : (p s : List ℕ) → length p ≡ 0 → some 0 ≡ place (cut p s)
+nothing_sought [] s z = sym (here [] s refl)
+nothing_sought (c ∷ p) s z = let f : ⊥ = omega arith in absurd f
 
 -- a place that is told is found, and none is not
 pub told : (c : Cut) {n : ℕ} → place c ≡ some n → found c ≡ true
@@ -99,8 +99,8 @@ untold (at u t) e = let z : ◌≡◌ {A = ℕ} 0 1 = cc in let f : ⊥ = omega 
 -- ── up to a byte ──
 
 module _ (p : ℕ → Bool) (s : List ℕ) (i : ℕ) where
-  pub until-step : i < length s → p (get_or s i 0) ≡ false → i + length (until p (drop i s)) ≡ (i + 1) + length (until p (drop (i + 1) s))
-  until-step h e = rw (view s i h, e) (omega arith)
+  pub until_step : i < length s → p (get_or s i 0) ≡ false → i + length (until p (drop i s)) ≡ (i + 1) + length (until p (drop (i + 1) s))
+  until_step h e = rw (view s i h, e) (omega arith)
 
   pub until_stop : i < length s → p (get_or s i 0) ≡ true → i + length (until p (drop i s)) ≡ i
   until_stop h e = rw (view s i h, e) (omega arith)
@@ -108,23 +108,23 @@ module _ (p : ℕ → Bool) (s : List ℕ) (i : ℕ) where
   pub until_end : length s ≤ i → i + length (until p (drop i s)) ≡ i
   until_end h = rw (drop_of_length-le s h) (omega arith)
 
-pub until-here : (p : ℕ → Bool) (s : List ℕ) (i : ℕ) → p (get_or s i 0) ≡ true → until p (drop i s) ≡ []
-until-here p [] i e = rw (drop-nil i)
-until-here p (b ∷ s) zero e = rw e
-until-here p (b ∷ s) (suc i) e = until-here p s i e
+pub until_here : (p : ℕ → Bool) (s : List ℕ) (i : ℕ) → p (get_or s i 0) ≡ true → until p (drop i s) ≡ []
+until_here p [] i e = rw (drop-nil i)
+until_here p (b ∷ s) zero e = rw e
+until_here p (b ∷ s) (suc i) e = until_here p s i e
 
 -- what stands before is a beginning of the text
-pub until-within : (p : ℕ → Bool) (s : List ℕ) → length (until p s) ≤ length s
-until-within p [] = omega arith
-until-within p (b ∷ s) = by (p b) (until-within p s)
+pub until_within : (p : ℕ → Bool) (s : List ℕ) → length (until p s) ≤ length s
+until_within p [] = omega arith
+until_within p (b ∷ s) = by (p b) (until_within p s)
   where
     by : (d : Bool) → length (until p s) ≤ length s → length (if d then [] else b ∷ until p s) ≤ suc (length s)
     by true h = omega arith
     by false h = omega arith
 
-pub until-take : (p : ℕ → Bool) (s : List ℕ) → take (length (until p s)) s ≡ until p s
-until-take p [] = refl
-until-take p (b ∷ s) = by (p b) (until-take p s)
+pub until_take : (p : ℕ → Bool) (s : List ℕ) → take (length (until p s)) s ≡ until p s
+until_take p [] = refl
+until_take p (b ∷ s) = by (p b) (until_take p s)
   where
     by : (d : Bool) → take (length (until p s)) s ≡ until p s → take (length (if d then [] else b ∷ until p s)) (b ∷ s) ≡ if d then [] else b ∷ until p s
     by true e = refl
@@ -136,31 +136,31 @@ pub right : (x y : Bool) → x && y ≡ true → y ≡ true
 right true y e = e
 right false y e = absurd (false≢true e)
 
-pub begins-within : (p s : List ℕ) → begins p s ≡ true → length p ≤ length s
-begins-within [] s e = omega arith
-begins-within (c ∷ p) [] e = absurd (false≢true e)
-begins-within (c ∷ p) (b ∷ s) e = let h : length p ≤ length s = begins-within p s (right (eqb c b) (begins p s) e) in omega arith
+pub begins_within : (p s : List ℕ) → begins p s ≡ true → length p ≤ length s
+begins_within [] s e = omega arith
+begins_within (c ∷ p) [] e = absurd (false≢true e)
+begins_within (c ∷ p) (b ∷ s) e = let h : length p ≤ length s = begins_within p s (right (eqb c b) (begins p s) e) in omega arith
 
 -- a text that is longer than another stands nowhere in it
 pub too_short : (p s : List ℕ) → length s < length p → begins p s ≡ false
-too_short p s h = by (begins p s) (begins-within p s)
+too_short p s h = by (begins p s) (begins_within p s)
   where
     by : (d : Bool) → (d ≡ true → length p ≤ length s) → d ≡ false
     by true f = let g = f refl in let z : ⊥ = omega arith in absurd z
     by false f = refl
 
-pub nowhere-short : (p s : List ℕ) → length s < length p → place (cut p s) ≡ none
-nowhere-short p [] h = rw (too_short p [] h)
-nowhere-short p (b ∷ s) h = rw (too_short p (b ∷ s) h) (by (cut p s) (nowhere-short p s (omega arith)))
+pub nowhere_short : (p s : List ℕ) → length s < length p → place (cut p s) ≡ none
+nowhere_short p [] h = rw (too_short p [] h)
+nowhere_short p (b ∷ s) h = rw (too_short p (b ∷ s) h) (by (cut p s) (nowhere_short p s (omega arith)))
   where
     by : (c : Cut) → place c ≡ none → place (later b c) ≡ none
     by nowhere e = refl
     by (at u t) e = let z : ◌≡◌ {A = ℕ} 0 1 = cc in let f : ⊥ = omega arith in absurd f
 
-pub after-drop : (p s : List ℕ) → begins p s ≡ true → after p s ≡ drop (length p) s
-after-drop [] s e = refl
-after-drop (c ∷ p) [] e = refl
-after-drop (c ∷ p) (b ∷ s) e = after-drop p s (right (eqb c b) (begins p s) e)
+pub after_drop : (p s : List ℕ) → begins p s ≡ true → after p s ≡ drop (length p) s
+after_drop [] s e = refl
+after_drop (c ∷ p) [] e = refl
+after_drop (c ∷ p) (b ∷ s) e = after_drop p s (right (eqb c b) (begins p s) e)
 
 -- u stands before p in s, and t follows it
 pub record Parted (p s u t : List ℕ) : Type 0 where
@@ -182,12 +182,12 @@ onward p s b (at u t) r =
     }
 
 pub reach : (p s : List ℕ) → Reach p s (cut p s)
-reach p [] = by (begins p []) (begins-within p [])
+reach p [] = by (begins p []) (begins_within p [])
   where
     by : (d : Bool) → (d ≡ true → length p ≤ 0) → Reach p [] (if d then at [] [] else nowhere)
     by true h = record { front = refl; back = sym (drop-nil (0 + length p)); room = omega (arith, h refl) }
     by false h = tt
-reach p (b ∷ s) = by (begins p (b ∷ s)) (begins-within p (b ∷ s)) (after-drop p (b ∷ s)) (reach p s)
+reach p (b ∷ s) = by (begins p (b ∷ s)) (begins_within p (b ∷ s)) (after_drop p (b ∷ s)) (reach p s)
   where
     by : (d : Bool) → (d ≡ true → length p ≤ suc (length s)) → (d ≡ true → after p (b ∷ s) ≡ drop (length p) (b ∷ s)) → Reach p s (cut p s)
         → Reach p (b ∷ s) (if d then at [] (after p (b ∷ s)) else later b (cut p s))
@@ -206,15 +206,15 @@ module _ (p s : List ℕ) (i : ℕ) where
           let g : t ≡ drop (i + length p) s = r.back ∙ ap (λ (n : ℕ). drop (n + length p) s) k in
           λ j. at (f j) (g j)
 
-  pub cut-within : place (cut p s) ≡ some i → i + length p ≤ length s
-  cut-within e = by (cut p s) (reach p s) e
+  pub cut_within : place (cut p s) ≡ some i → i + length p ≤ length s
+  cut_within e = by (cut p s) (reach p s) e
     where
       by : (c : Cut) → Reach p s c → place c ≡ some i → i + length p ≤ length s
       by nowhere r e = let z : ◌≡◌ {A = ℕ} 0 1 = cc in let f : ⊥ = omega arith in absurd f
       by (at u t) r e = let k : length u ≡ i = cc in omega (arith, r.room)
 
-pub cut-nowhere : (p s : List ℕ) → place (cut p s) ≡ none → cut p s ≡ nowhere
-cut-nowhere p s e = by (cut p s) e
+pub cut_nowhere : (p s : List ℕ) → place (cut p s) ≡ none → cut p s ≡ nowhere
+cut_nowhere p s e = by (cut p s) e
   where
     by : (c : Cut) → place c ≡ none → c ≡ nowhere
     by nowhere e = refl

@@ -35,48 +35,48 @@ module _ {K : Type 0} {D R S : K → Type 0} where
 
 -- ── answers that are stated as they are ──
 
-pub begins-one : One begins.Post
-begins-one κs a x y s t p q = p ∙ sym q
+pub begins_one : One begins.Post
+begins_one κs a x y s t p q = p ∙ sym q
 
-pub same-one : One same.Post
-same-one κs a x y s t p q = p ∙ sym q
+pub same_one : One same.Post
+same_one κs a x y s t p q = p ∙ sym q
 
-pub contains-one : One contains.Post
-contains-one κs a x y s t p q = p ∙ sym q
+pub contains_one : One contains.Post
+contains_one κs a x y s t p q = p ∙ sym q
 
-pub until-one : One until.Post
-until-one κs a x y s t p q = p ∙ sym q
+pub until_one : One until.Post
+until_one κs a x y s t p q = p ∙ sym q
 
-pub seek-one : One seek.Post
-seek-one κs a x y s t p q = p ∙ sym q
+pub seek_one : One seek.Post
+seek_one κs a x y s t p q = p ∙ sym q
 
-pub seek-outside-one : One seek-outside.Post
-seek-outside-one κs a x y s t p q = p ∙ sym q
+pub seek_outside_one : One seek-outside.Post
+seek_outside_one κs a x y s t p q = p ∙ sym q
 
-pub white-one : One white.Post
-white-one κs a x y s t p q = p ∙ sym q
+pub white_one : One white.Post
+white_one κs a x y s t p q = p ∙ sym q
 
 -- ── returned slices ──
 
-pub trim-one : Alike (λ κs x. x.now) trim.Post
-trim-one κs a x y s t p q = p ∙ sym q
+pub trim_one : Alike (λ κs x. x.now) trim.Post
+trim_one κs a x y s t p q = p ∙ sym q
 
-pub trim-start-matches-one : Alike (λ κs x. x.now) trim-start-matches.Post
-trim-start-matches-one κs a x y s t p q = p ∙ sym q
+pub trim_start_matches_one : Alike (λ κs x. x.now) trim-start-matches.Post
+trim_start_matches_one κs a x y s t p q = p ∙ sym q
 
-pub trim-end-matches-one : Alike (λ κs x. x.now) trim-end-matches.Post
-trim-end-matches-one κs a x y s t p q = p ∙ sym q
+pub trim_end_matches_one : Alike (λ κs x. x.now) trim-end-matches.Post
+trim_end_matches_one κs a x y s t p q = p ∙ sym q
 
 -- ── answers read through a function of their cases ──
 
-pub spot-one : (f g : Found) → spot f ≡ spot g → f ≡ g
-spot-one (At n) (At m) e = let k : n ≡ m = cc in ap At k
-spot-one (At n) Nowhere e = let z : ◌≡◌ {A = ℕ} 0 1 = cc in let f : ⊥ = omega arith in absurd f
-spot-one Nowhere (At m) e = let z : ◌≡◌ {A = ℕ} 0 1 = cc in let f : ⊥ = omega arith in absurd f
-spot-one Nowhere Nowhere e = refl
+pub spot_one : (f g : Found) → spot f ≡ spot g → f ≡ g
+spot_one (At n) (At m) e = let k : n ≡ m = cc in ap At k
+spot_one (At n) Nowhere e = let z : ◌≡◌ {A = ℕ} 0 1 = cc in let f : ⊥ = omega arith in absurd f
+spot_one Nowhere (At m) e = let z : ◌≡◌ {A = ℕ} 0 1 = cc in let f : ⊥ = omega arith in absurd f
+spot_one Nowhere Nowhere e = refl
 
-pub find-one : One find.Post
-find-one κs a x y s t p q = spot-one x y (p ∙ sym q)
+pub find_one : One find.Post
+find_one κs a x y s t p q = spot_one x y (p ∙ sym q)
 
-pub find-by-one : One find-by.Post
-find-by-one κs a x y s t p q = spot-one x y (p ∙ sym q)
+pub find_by_one : One find-by.Post
+find_by_one κs a x y s t p q = spot_one x y (p ∙ sym q)

@@ -89,35 +89,35 @@ until p (b ∷ s) = if p b then [] else b ∷ until p s
 
 -- ── splitting ──
 
-abbrev pub onto-first : ℕ → List Text → List Text
-onto-first b [] = (b ∷ []) ∷ []
-onto-first b (p ∷ ps) = (b ∷ p) ∷ ps
+abbrev pub onto_first : ℕ → List Text → List Text
+onto_first b [] = (b ∷ []) ∷ []
+onto_first b (p ∷ ps) = (b ∷ p) ∷ ps
 
 -- the parts of s between the bytes x: one at least
 abbrev pub split : ℕ → Text → List Text
 split x [] = [] ∷ []
-split x (b ∷ s) = if eqb x b then [] ∷ split x s else onto-first b (split x s)
+split x (b ∷ s) = if eqb x b then [] ∷ split x s else onto_first b (split x s)
 
 -- ── trimming ──
 
 -- s without its leading bytes that pass the test
-abbrev pub less-leading : (ℕ → Bool) → Text → Text
-less-leading p [] = []
-less-leading p (b ∷ s) = if p b then less-leading p s else b ∷ s
+abbrev pub less_leading : (ℕ → Bool) → Text → Text
+less_leading p [] = []
+less_leading p (b ∷ s) = if p b then less_leading p s else b ∷ s
 
 -- b before what is left of the rest: b is the last byte where nothing is left
-abbrev pub unless-last : (ℕ → Bool) → ℕ → Text → Text
-unless-last p b [] = if p b then [] else b ∷ []
-unless-last p b (c ∷ s) = b ∷ c ∷ s
+abbrev pub unless_last : (ℕ → Bool) → ℕ → Text → Text
+unless_last p b [] = if p b then [] else b ∷ []
+unless_last p b (c ∷ s) = b ∷ c ∷ s
 
 -- s without its trailing bytes that pass the test
-abbrev pub less-trailing : (ℕ → Bool) → Text → Text
-less-trailing p [] = []
-less-trailing p (b ∷ s) = unless-last p b (less-trailing p s)
+abbrev pub less_trailing : (ℕ → Bool) → Text → Text
+less_trailing p [] = []
+less_trailing p (b ∷ s) = unless_last p b (less_trailing p s)
 
 -- bytes 9 to 13 and 32 (01, module 1)
 abbrev pub white : ℕ → Bool
 white b = (leb 9 b && leb b 13) || eqb b 32
 
 abbrev pub trim : Text → Text
-trim s = less-trailing white (less-leading white s)
+trim s = less_trailing white (less_leading white s)

@@ -1,7 +1,7 @@
 // Seeking and trimming.
 ghost use Rattle.std.specs.Prelude.{◌≡◌, ◌≤◌, ◌<◌, eqb, drop, length};
 ghost use Rattle.lexis.specs.Text.{same, begins, cut, place, spot, occurs, until};
-ghost use Rattle.lexis.specs.Text.{less-leading, less-trailing, white, trim};
+ghost use Rattle.lexis.specs.Text.{less_leading, less_trailing, white, trim};
 
 use super::blocks::seek;
 
@@ -109,7 +109,7 @@ pub fn white(b: u8) -> bool
 }
 
 fn trim_start(text: &[u8]) -> &[u8]
-    ensures { result.now ≡ less-leading white text.now }
+    ensures { result.now ≡ less_leading white text.now }
 {
     let mut i = 0;
     while i < text.len() {
@@ -122,7 +122,7 @@ fn trim_start(text: &[u8]) -> &[u8]
 }
 
 fn trim_end(text: &[u8]) -> &[u8]
-    ensures { result.now ≡ less-trailing white text.now }
+    ensures { result.now ≡ less_trailing white text.now }
 {
     let mut e = text.len();
     while 0 < e {
@@ -143,7 +143,7 @@ pub fn trim(text: &[u8]) -> &[u8]
 
 // `text` with no `b` in front.
 pub fn trim_start_matches(text: &[u8], b: u8) -> &[u8]
-    ensures { result.now ≡ less-leading (eqb b) text.now }
+    ensures { result.now ≡ less_leading (eqb b) text.now }
 {
     let mut i = 0;
     while i < text.len() {
@@ -157,7 +157,7 @@ pub fn trim_start_matches(text: &[u8], b: u8) -> &[u8]
 
 // `text` with no `b` behind.
 pub fn trim_end_matches(text: &[u8], b: u8) -> &[u8]
-    ensures { result.now ≡ less-trailing (eqb b) text.now }
+    ensures { result.now ≡ less_trailing (eqb b) text.now }
 {
     let mut e = text.len();
     while 0 < e {

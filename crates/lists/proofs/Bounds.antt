@@ -7,34 +7,34 @@ use Prim.Native.Nat.{ℕ, suc, ◌+◌, ◌-◌, ◌≤◌}
 use native.Mathlib.Omega.{arith}
 use lib.Dec.{eqb}
 use lib.ListN.{length}
-use Rattle.lexis.specs.Text.{Text, if◌then◌else◌, onto-first, until, split}
-use Rattle.lexis.proofs.Seeking.{until-within}
+use Rattle.lexis.specs.Text.{Text, if◌then◌else◌, onto_first, until, split}
+use Rattle.lexis.proofs.Seeking.{until_within}
 use Rattle.meaning.specs.Parts.{front}
 use Rattle.meaning.specs.Found.{Entry, Clause, stands, filled, values, unreadable, lacking}
 use Rattle.meaning.specs.Tile.{dimension, dimensions}
 use Rattle.lists.specs.Laid.{Laid, laid}
-use Rattle.lists.proofs.Laying.{value, few-of}
+use Rattle.lists.proofs.Laying.{value, few_of}
 
 -- ── every clause ──
 
 -- no more entries fall back than there are
-pub fell-within : (c : Clause) → unreadable c ≤ length (values c)
-fell-within (stands es) = few-of es
-fell-within (filled zs) = omega arith
+pub fell_within : (c : Clause) → unreadable c ≤ length (values c)
+fell_within (stands es) = few_of es
+fell_within (filled zs) = omega arith
 
 -- a clause is filled in at most once
-pub lacking-within : (c : Clause) → lacking c ≤ 1
-lacking-within (stands es) = omega arith
-lacking-within (filled []) = omega arith
-lacking-within (filled (z ∷ zs)) = omega arith
+pub lacking_within : (c : Clause) → lacking c ≤ 1
+lacking_within (stands es) = omega arith
+lacking_within (filled []) = omega arith
+lacking_within (filled (z ∷ zs)) = omega arith
 
 -- ── how many parts a text has ──
 
-pub split-length : (x : ℕ) (s : Text) → length (split x s) ≤ length s + 1
-split-length x [] = omega arith
-split-length x (b ∷ s) = by (eqb x b) (split x s) (split-length x s)
+pub split_length : (x : ℕ) (s : Text) → length (split x s) ≤ length s + 1
+split_length x [] = omega arith
+split_length x (b ∷ s) = by (eqb x b) (split x s) (split_length x s)
   where
-    by : (d : Bool) (ps : List Text) → length ps ≤ length s + 1 → length (if d then [] ∷ ps else onto-first b ps) ≤ suc (length s) + 1
+    by : (d : Bool) (ps : List Text) → length ps ≤ length s + 1 → length (if d then [] ∷ ps else onto_first b ps) ≤ suc (length s) + 1
     by true ps h = omega arith
     by false [] h = omega arith
     by false (p ∷ ps) h = omega arith
@@ -51,22 +51,22 @@ pub record Within (n : ℕ) (l : Laid) : Type 0 where
   pub len : l.row.len ≤ n
   pub fell : l.row.tally.fell ≤ n
 
-said-length : (said : Text → Entry) (ps : List Text) → length (L.map value (L.map said ps)) ≡ length ps
-said-length said [] = refl
-said-length said (p ∷ ps) = ap suc (said-length said ps)
+said_length : (said : Text → Entry) (ps : List Text) → length (L.map value (L.map said ps)) ≡ length ps
+said_length said [] = refl
+said_length said (p ∷ ps) = ap suc (said_length said ps)
 
 module _ (w : ℕ) {l : Laid} (x : ℕ) (s : Text) where
-  pub front-within : l ≡ laid w (dimensions (front (split x s))) → Within (length s) l
-  front-within e =
+  pub front_within : l ≡ laid w (dimensions (front (split x s))) → Within (length s) l
+  front_within e =
       let c = dimensions (front (split x s)) in
       let a : l.row.len ≡ length (values c) = ap (λ (m : Laid). m.row.len) e in
       let b : l.row.tally.fell ≡ unreadable c = ap (λ (m : Laid). m.row.tally.fell) e in
-      let n = said-length dimension (front (split x s)) in
-      let k = fell-within c in
+      let n = said_length dimension (front (split x s)) in
+      let k = fell_within c in
       let f = front_length (split x s) in
-      let g = split-length x s in
+      let g = split_length x s in
       record { len = omega arith; fell = omega arith }
 
 -- a part is no longer than the text that it begins
-pub part-within : (x : ℕ) (t : Text) {k : ℕ} → k ≡ length (until (eqb x) t) → k ≤ length t
-part-within x t e = let h = until-within (eqb x) t in omega arith
+pub part_within : (x : ℕ) (t : Text) {k : ℕ} → k ≡ length (until (eqb x) t) → k ≤ length t
+part_within x t e = let h = until_within (eqb x) t in omega arith

@@ -9,7 +9,7 @@ use lib.IntN.{ℤ, pos}
 use lib.ListN.{length, take, get_or, set}
 use lib.Seq.{take-suc, take_all, length-take-le}
 use Rattle.meaning.specs.Found.{padded, filled}
-use Rattle.meaning.specs.Views.{count-up}
+use Rattle.meaning.specs.Views.{count_up}
 use Rattle.lists.specs.Laid.{Laid, laid}
 use Rattle.lists.specs.Push.{filled_row}
 use Rattle.lists.specs.declared.row.Row.{Row}
@@ -54,14 +54,14 @@ module _ (w : ℕ) (zs : List ℤ) where
 
 -- ── counting up ──
 
-pub length_up : (k n : ℕ) → length (count-up k n) ≡ n
+pub length_up : (k n : ℕ) → length (count_up k n) ≡ n
 length_up k zero = refl
 length_up k (suc n) = ap suc (length_up (k + 1) n)
 
-up_at : (k n i : ℕ) (d : ℤ) → i < n → get_or (count-up k n) i d ≡ pos (k + i)
+up_at : (k n i : ℕ) (d : ℤ) → i < n → get_or (count_up k n) i d ≡ pos (k + i)
 up_at k zero i d h = absurd (not-suc-le-zero h)
 up_at k (suc n) zero d h = ap pos (sym (add-zero k))
 up_at k (suc n) (suc i) d h = up_at (k + 1) n i d (le_of_suc-le-suc h) ∙ ap pos (omega arith)
 
-pub from-0 : (n i : ℕ) → i < n → pos i ≡ get_or (count-up 0 n) i (pos 0)
-from-0 n i h = sym (up_at 0 n i (pos 0) h ∙ ap pos (omega arith))
+pub from_0 : (n i : ℕ) → i < n → pos i ≡ get_or (count_up 0 n) i (pos 0)
+from_0 n i h = sym (up_at 0 n i (pos 0) h ∙ ap pos (omega arith))

@@ -13,8 +13,8 @@ use lib.ListN.{length, take, drop, length-drop, length-append}
 use lib.Seq.{take_all, drop-drop}
 use Rattle.lexis.specs.Text.{Text, until, split}
 use Rattle.lexis.proofs.Lists.{rest}
-use Rattle.lexis.proofs.Seeking.{until-take}
-use Rattle.lexis.proofs.Splitting.{split-more, split-last}
+use Rattle.lexis.proofs.Seeking.{until_take}
+use Rattle.lexis.proofs.Splitting.{split_more, split_last}
 use Rattle.meaning.specs.Parts.{last, front}
 use Rattle.meaning.proofs.Slots.{slot}
 use Rattle.meaning.specs.Found.{Came, read, fell, Entry, stands, padded, counted, fallen, unused}
@@ -27,9 +27,9 @@ use Rattle.lists.specs.declared.row.Tally.{Tally}
 abbrev pub value : Entry → ℤ
 value e = e.value
 
-counted-more : (es : List Entry) (e : Entry) → fallen es + counted e.came ≡ fallen (es ++ e ∷ [])
-counted-more [] e = omega arith
-counted-more (f ∷ es) e = let h : fallen es + counted e.came ≡ fallen (es ++ e ∷ []) = counted-more es e in omega arith
+counted_more : (es : List Entry) (e : Entry) → fallen es + counted e.came ≡ fallen (es ++ e ∷ [])
+counted_more [] e = omega arith
+counted_more (f ∷ es) e = let h : fallen es + counted e.came ≡ fallen (es ++ e ∷ []) = counted_more es e in omega arith
 
 told_is : (n : ℕ) (c : Came) → told (record { fell = n }) c ≡ record { fell = n + counted c }
 told_is n read = ap {B = Tally} (λ (m : ℕ). record { fell = m }) {x = n} {y = n + 0} (omega arith)
@@ -44,19 +44,19 @@ laid_more w es e =
       row = record {
         len = (k ∙ ap length (sym m)) i;
         stood = true;
-        tally = (told_is (fallen es) e.came ∙ ap {B = Tally} (λ (n : ℕ). record { fell = n }) (counted-more es e)) i;
+        tally = (told_is (fallen es) e.came ∙ ap {B = Tally} (λ (n : ℕ). record { fell = n }) (counted_more es e)) i;
       };
     }
 
 -- ── what a loop keeps ──
 
-counted-few : (c : Came) → counted c ≤ 1
-counted-few read = omega arith
-counted-few fell = omega arith
+counted_few : (c : Came) → counted c ≤ 1
+counted_few read = omega arith
+counted_few fell = omega arith
 
-pub few-of : (es : List Entry) → fallen es ≤ length (L.map value es)
-few-of [] = omega arith
-few-of (e ∷ es) = let h : fallen es ≤ length (L.map value es) = few-of es in let k = counted-few e.came in omega arith
+pub few_of : (es : List Entry) → fallen es ≤ length (L.map value es)
+few_of [] = omega arith
+few_of (e ∷ es) = let h : fallen es ≤ length (L.map value es) = few_of es in let k = counted_few e.came in omega arith
 
 pub front_of : (ps : List Text) (p : Text) → front (ps ++ p ∷ []) ≡ ps
 front_of [] p = refl
@@ -83,7 +83,7 @@ module _ (w x : ℕ) (said : Text → Entry) where
   -- the next part is k bytes, and l' is the list with it
   module _ {s t : Text} {l l' : Laid} {k : ℕ} {e : Entry} (g : Kept s t l) (u : k ≡ length (until (eqb x) t)) (p : e ≡ said (take k t)) (q : l' ≡ push l e) where
     first : take k t ≡ until (eqb x) t
-    first = rw (u, until-take (eqb x) t)
+    first = rw (u, until_take (eqb x) t)
 
     grown : l' ≡ laid w (stands (L.map said (g.passed ++ take k t ∷ [])))
     grown =
@@ -94,43 +94,43 @@ module _ (w x : ℕ) (said : Text → Entry) where
     step r h = subst (λ (y : Text). Kept s y l') (sym r) (record {
       passed = g.passed ++ take k t ∷ [];
       parts =
-          g.parts ∙ ap (λ (ps : List Text). g.passed ++ ps) (split-more x t (rw u at h) ∙ sym (λ i. first i ∷ split x (drop (suc (u i)) t)))
+          g.parts ∙ ap (λ (ps : List Text). g.passed ++ ps) (split_more x t (rw u at h) ∙ sym (λ i. first i ∷ split x (drop (suc (u i)) t)))
           ∙ sym (append_assoc g.passed (take k t ∷ []) (split x (drop (suc k) t)))
           ∙ ap (λ (n : ℕ). (g.passed ++ take k t ∷ []) ++ split x (drop n t)) (sym (add-one k));
       is = grown;
       room = rw (ap (λ (m : Laid). m.row.len) q, length-drop) (omega (arith, g.room));
-      few = rw grown (few-of (L.map said (g.passed ++ take k t ∷ [])));
+      few = rw grown (few_of (L.map said (g.passed ++ take k t ∷ [])));
     })
 
     pub end : length t ≤ k → l' ≡ laid w (stands (L.map said (split x s)))
     end h = grown ∙ ap (λ (ps : List Text). laid w (stands (L.map said ps)))
-        (sym (g.parts ∙ ap (λ (ps : List Text). g.passed ++ ps) (split-last x t (rw u at h) ∙ ap (λ (y : Text). y ∷ []) (sym first))))
+        (sym (g.parts ∙ ap (λ (ps : List Text). g.passed ++ ps) (split_last x t (rw u at h) ∙ ap (λ (y : Text). y ∷ []) (sym first))))
 
   -- t is the last part
   module _ {s t : Text} {l : Laid} (g : Kept s t l) (h : length t ≤ length (until (eqb x) t)) where
     alone : split x s ≡ g.passed ++ t ∷ []
     alone =
         g.parts ∙ ap (λ (ps : List Text). g.passed ++ ps)
-        (split-last x t h ∙ ap (λ (y : Text). y ∷ []) (sym (until-take (eqb x) t) ∙ take_all (length (until (eqb x) t)) t h))
+        (split_last x t h ∙ ap (λ (y : Text). y ∷ []) (sym (until_take (eqb x) t) ∙ take_all (length (until (eqb x) t)) t h))
 
-    pub dims-front : l ≡ laid w (stands (L.map said (front (split x s))))
-    dims-front = g.is ∙ ap (λ (ps : List Text). laid w (stands (L.map said ps))) (sym (ap front alone ∙ front_of g.passed t))
+    pub dims_front : l ≡ laid w (stands (L.map said (front (split x s))))
+    dims_front = g.is ∙ ap (λ (ps : List Text). laid w (stands (L.map said ps))) (sym (ap front alone ∙ front_of g.passed t))
 
-    pub part-last : t ≡ last (split x s)
-    part-last = sym (ap last alone ∙ last_of g.passed t)
+    pub part_last : t ≡ last (split x s)
+    part_last = sym (ap last alone ∙ last_of g.passed t)
 
   -- the same by a place in s, with the next part from there on
   module _ (s : Text) (at : ℕ) {l : Laid} {k : ℕ} (g : Kept s (drop at s) l) (u : k ≡ length (until (eqb x) (take (length s - at) (drop at s)))) where
-    from-there : k ≡ length (until (eqb x) (drop at s))
-    from-there = rw rest at u
+    from_there : k ≡ length (until (eqb x) (drop at s))
+    from_there = rw rest at u
 
-    pub step-at : {l' : Laid} {e : Entry} → e ≡ said (take (at + k - at) (drop at s)) → l' ≡ push l e → k < length s - at → Kept s (drop (at + k + 1) s) l'
-    step-at p q h =
+    pub step_at : {l' : Laid} {e : Entry} → e ≡ said (take (at + k - at) (drop at s)) → l' ≡ push l e → k < length s - at → Kept s (drop (at + k + 1) s) l'
+    step_at p q h =
         let n : at + k - at ≡ k = omega arith in
         let m : at + (k + 1) ≡ at + k + 1 = omega arith in
-        step g from-there (p ∙ ap (λ (j : ℕ). said (take j (drop at s))) n) q
+        step g from_there (p ∙ ap (λ (j : ℕ). said (take j (drop at s))) n) q
         (sym (drop-drop (k + 1) at s ∙ ap (λ (j : ℕ). drop j s) m))
         (rw length-drop h)
 
-    pub last-at : length s - at ≤ k → length (drop at s) ≤ length (until (eqb x) (drop at s))
-    last-at h = rw (← from-there, length-drop) h
+    pub last_at : length s - at ≤ k → length (drop at s) ≤ length (until (eqb x) (drop at s))
+    last_at h = rw (← from_there, length-drop) h

@@ -5,7 +5,7 @@ use Prim.Native.Char.{code}
 use mathlib.Core.List as L
 use Rattle.lexis.specs.Text.{Text, split}
 use Rattle.meaning.specs.Parts.{last, front}
-use Rattle.meaning.specs.Found.{Entry, as_read, as-fallen, Clause, stands, filled, values, padded, unreadable}
+use Rattle.meaning.specs.Found.{Entry, as_read, as_fallen, Clause, stands, filled, values, padded, unreadable}
 use Rattle.meaning.specs.Tile.{dimensions}
 use Rattle.meaning.specs.Views.{small}
 use Rattle.lists.specs.declared.entry.Entry64.{Entry64}
@@ -41,11 +41,11 @@ laid cap c = record { values = padded cap (values c); row = row c }
 
 abbrev pub said64 : Entry64 → Entry
 said64 (E64.Read z) = as_read z
-said64 (E64.Fell z) = as-fallen z
+said64 (E64.Fell z) = as_fallen z
 
 abbrev pub said32 : Entry32 → Entry
 said32 (E32.Read z) = as_read z
-said32 (E32.Fell z) = as-fallen z
+said32 (E32.Fell z) = as_fallen z
 
 abbrev pub list64 : List64 → Laid
 list64 l = record { values = l.values; row = l.row }

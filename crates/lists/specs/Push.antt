@@ -6,7 +6,7 @@ use Rattle.numerals.specs.declared.numeral.Number64.{Number64}
 use Rattle.numerals.specs.declared.numeral.Number32.{Number32}
 use Rattle.meaning.specs.Found.{Came, read, fell, Entry}
 use Rattle.meaning.specs.Parts.{last, front}
-use Rattle.meaning.specs.Tile.{read-or, dimensions}
+use Rattle.meaning.specs.Tile.{read_or, dimensions}
 use Rattle.lists.specs.Laid.{Laid, laid, list64}
 use Rattle.lists.specs.declared.list.Front.{Front}
 use Rattle.lists.specs.declared.row.Row.{Row}
@@ -17,7 +17,7 @@ abbrev pub Says : Number64 → Text → Type 0
 Says v s = N.said64 v ≡ N.numeral 64 (trim s)
 
 abbrev pub small_by : ℤ → Number32 → Entry
-small_by d v = read-or d (N.said32 v)
+small_by d v = read_or d (N.said32 v)
 
 -- one value more, and the tally then; a place past the end of the values is no place
 abbrev pub put : Laid → ℤ → Tally → Laid

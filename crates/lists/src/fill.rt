@@ -2,7 +2,7 @@
 ghost use Rattle.std.specs.Prelude.{◌≡◌, [], ◌∷◌, pos, replicate};
 ghost use Rattle.meaning.specs.Found.{filled, unused};
 ghost use Rattle.meaning.specs.Tile.{DYNAMIC};
-ghost use Rattle.meaning.specs.Views.{count-up};
+ghost use Rattle.meaning.specs.Views.{count_up};
 ghost use Rattle.lists.specs.Laid.{laid, list64, list32};
 
 use super::entry::DYNAMIC;
@@ -49,7 +49,7 @@ pub fn dynamic(n: usize) -> List64
 
 // 0, 1, 2 ..: n of them.
 pub fn count_up(n: usize) -> List32
-    ensures { list32 result ≡ laid 8 (filled (count-up 0 n)) }
+    ensures { list32 result ≡ laid 8 (filled (count_up 0 n)) }
 {
     let mut values = [0i32; CAP];
     let mut i = 0;

@@ -15,7 +15,7 @@ use mir.Syntax.{Width}
 use mir.Val.{SFits, bits, of_z, to_z}
 use mir.ValLaws.{to_z_pos, to_z-neg}
 use Rattle.lexis.specs.Text.{if◌then◌else◌}
-use Rattle.meaning.specs.Normal.{is_zero, all-zero, clear}
+use Rattle.meaning.specs.Normal.{is_zero, all_zero, clear}
 
 -- the bits of z are 0 exactly when z is: no negative number of w bits has them
 pub zero_bits : (w : Width) (z : ℤ) → SFits w z → eqb (of_z w z) 0 ≡ is_zero z
@@ -30,10 +30,10 @@ zero_bits w (negsuc n) f = ne_eqb (2 ^ bits w - suc n) 0 (λ e. apart (sym (ap (
 pub over : (cap : ℕ) (used : Bool) (n : ℕ) (l : List ℤ) → (if used then cap else 0) < n → clear cap used n l ≡ false
 over cap used n l h = rw (lt-leb n (if used then cap else 0) h)
 
-pub within : (cap : ℕ) (used : Bool) (n : ℕ) (l : List ℤ) → n ≤ (if used then cap else 0) → clear cap used n l ≡ all-zero (drop n l)
+pub within : (cap : ℕ) (used : Bool) (n : ℕ) (l : List ℤ) → n ≤ (if used then cap else 0) → clear cap used n l ≡ all_zero (drop n l)
 within cap used n l h = rw (le-leb n (if used then cap else 0) h)
 
-pub past : (l : List ℤ) (i : ℕ) → length l ≤ i → all-zero (drop i l) ≡ true
+pub past : (l : List ℤ) (i : ℕ) → length l ≤ i → all_zero (drop i l) ≡ true
 past l i h = rw (drop_of_length-le l h)
 
 entry : (l : List ℤ) (i : ℕ) → i < length l → drop i l ≡ get_or l i (pos 0) ∷ drop (i + 1) l
@@ -43,8 +43,8 @@ entry l i h = rw (add-one, drop-cons l i (pos 0))
 module _ (w : Width) (l : List ℤ) (i : ℕ) {t : Bool} (h : i < length l)
     (same : to_z w (of_z w (get_or l i (pos 0))) ≡ get_or l i (pos 0))
     (test : t ≡ is_zero (to_z w (of_z w (get_or l i (pos 0))))) where
-  pub not-zero : t ≡ false → all-zero (drop i l) ≡ false
-  not-zero e = rw (entry l i h, ← ap is_zero same, ← test, e)
+  pub not_zero : t ≡ false → all_zero (drop i l) ≡ false
+  not_zero e = rw (entry l i h, ← ap is_zero same, ← test, e)
 
-  pub one_more : t ≡ true → all-zero (drop i l) ≡ all-zero (drop (i + 1) l)
+  pub one_more : t ≡ true → all_zero (drop i l) ≡ all_zero (drop (i + 1) l)
   one_more e = rw (entry l i h, ← ap is_zero same, ← test, e)

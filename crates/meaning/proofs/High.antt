@@ -9,38 +9,38 @@ use borrow.Author.Tests.{le-ltb}
 use lib.Dec.{leb}
 use lib.ListN.{length}
 use Rattle.lexis.specs.Text.{Text, if◌then◌else◌, outside, until}
-use Rattle.meaning.specs.Ordinary.{high-from}
+use Rattle.meaning.specs.Ordinary.{high_from}
 
 abbrev low : Text → ℕ
 low s = length (until (leb 128) s)
 
 -- no byte is below 0
-pub low-is : (s : Text) → length (until (outside 0 127) s) ≡ low s
-low-is s = ap length (by s)
+pub low_is : (s : Text) → length (until (outside 0 127) s) ≡ low s
+low_is s = ap length (by s)
   where
     by : (s : Text) → until (outside 0 127) s ≡ until (leb 128) s
     by [] = refl
     by (b ∷ s) = rw (le-ltb b 0 (omega arith), by s)
 
-at_from : (k : ℕ) (s : Text) → low s < length s → high-from k s ≡ some (k + low s)
+at_from : (k : ℕ) (s : Text) → low s < length s → high_from k s ≡ some (k + low s)
 at_from k [] h = let f : ⊥ = omega arith in absurd f
 at_from k (b ∷ s) h = by (leb 128 b) h (at_from (suc k) s)
   where
-    by : (c : Bool) → length (if c then [] else b ∷ until (leb 128) s) < suc (length s) → (low s < length s → high-from (suc k) s ≡ some (suc k + low s)) →
-        (if c then some k else high-from (suc k) s) ≡ some (k + length (if c then [] else b ∷ until (leb 128) s))
+    by : (c : Bool) → length (if c then [] else b ∷ until (leb 128) s) < suc (length s) → (low s < length s → high_from (suc k) s ≡ some (suc k + low s)) →
+        (if c then some k else high_from (suc k) s) ≡ some (k + length (if c then [] else b ∷ until (leb 128) s))
     by true g r = ap some (omega arith)
     by false g r = r (omega arith) ∙ ap some (omega arith)
 
-none_from : (k : ℕ) (s : Text) → length s ≤ low s → high-from k s ≡ none
+none_from : (k : ℕ) (s : Text) → length s ≤ low s → high_from k s ≡ none
 none_from k [] h = refl
 none_from k (b ∷ s) h = by (leb 128 b) h (none_from (suc k) s)
   where
-    by : (c : Bool) → suc (length s) ≤ length (if c then [] else b ∷ until (leb 128) s) → (length s ≤ low s → high-from (suc k) s ≡ none) → (if c then some k else high-from (suc k) s) ≡ none
+    by : (c : Bool) → suc (length s) ≤ length (if c then [] else b ∷ until (leb 128) s) → (length s ≤ low s → high_from (suc k) s ≡ none) → (if c then some k else high_from (suc k) s) ≡ none
     by true g r = let f : ⊥ = omega arith in absurd f
     by false g r = r (omega arith)
 
-pub high-at : (s : Text) (i : ℕ) → i ≡ low s → i < length s → high-from 0 s ≡ some i
-high-at s i e h = at_from 0 s (omega arith) ∙ ap some (omega arith)
+pub high_at : (s : Text) (i : ℕ) → i ≡ low s → i < length s → high_from 0 s ≡ some i
+high_at s i e h = at_from 0 s (omega arith) ∙ ap some (omega arith)
 
-pub high-none : (s : Text) (i : ℕ) → i ≡ low s → length s ≤ i → high-from 0 s ≡ none
-high-none s i e h = none_from 0 s (omega arith)
+pub high_none : (s : Text) (i : ℕ) → i ≡ low s → length s ≤ i → high_from 0 s ≡ none
+high_none s i e h = none_from 0 s (omega arith)

@@ -29,6 +29,6 @@ rows =
     row "partition_view<tile=(4x8), tensor_view<?x16xf32, strides=[16, 1]>, dim_map=[1,0]>"
     (type K.Partition F32 false false (DYN ∷ pos 16 ∷ []) (pos 16 ∷ pos 1 ∷ []) (pos 4 ∷ pos 8 ∷ []) (pos 1 ∷ pos 0 ∷ []) [] (pos 0) Absent 0 0 0 0) ∷ []
 
-rows-hold : L.map (reading 8 1024) (texts rows) ≡ answers rows
+rows_hold : L.map (reading 8 1024) (texts rows) ≡ answers rows
 unfolding reading
-rows-hold = refl
+rows_hold = refl

@@ -44,11 +44,11 @@ slips =
     row "tile<\u{80}>" (refused HighByte 5) ∷
     row "" (refused NoType 0) ∷ []
 
-slips-hold : L.map (reading 8 1024) (texts slips) ≡ answers slips
+slips_hold : L.map (reading 8 1024) (texts slips) ≡ answers slips
 unfolding reading
-slips-hold = refl
+slips_hold = refl
 
 -- the limit of a text is a parameter too: at 4 bytes `token` is too long, at 5 it is not
-limit-holds : L.map (λ size. reading 8 size (Rattle.lexis.specs.Text.bytes "token")) (4 ∷ 5 ∷ []) ≡ refused TooLong 0 ∷ type K.Token I1 false false [] [] [] [] [] (pos 0) Absent 0 0 0 0 ∷ []
+limit_holds : L.map (λ size. reading 8 size (Rattle.lexis.specs.Text.bytes "token")) (4 ∷ 5 ∷ []) ≡ refused TooLong 0 ∷ type K.Token I1 false false [] [] [] [] [] (pos 0) Absent 0 0 0 0 ∷ []
 unfolding reading
-limit-holds = refl
+limit_holds = refl

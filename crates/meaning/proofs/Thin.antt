@@ -3,7 +3,7 @@ use Prim.Native.Nat.{◌≤◌}
 use native.Mathlib.Omega.{arith}
 use lib.ListN.{length}
 use Rattle.lexis.specs.Text.{Cut, nowhere, at}
-use Rattle.meaning.specs.Found.{values, Found, made, plain, token, with-attribute}
+use Rattle.meaning.specs.Found.{values, Found, made, plain, token, with_attribute}
 use Rattle.meaning.specs.Tile as T
 use Rattle.meaning.specs.Views as W
 use Rattle.meaning.proofs.Everywhere.{Made}
@@ -11,20 +11,20 @@ use Rattle.meaning.proofs.Everywhere.{Made}
 abbrev pub Thin : Found → Type 0
 Thin t = length (values t.sparse) ≤ 1
 
-thin-sparse : (c : Cut) → length (values (W.sparse-by c)) ≤ 1
-thin-sparse nowhere = omega arith
-thin-sparse (at u t) = omega arith
+thin_sparse : (c : Cut) → length (values (W.sparse_by c)) ≤ 1
+thin_sparse nowhere = omega arith
+thin_sparse (at u t) = omega arith
 
 pub thin : Made Thin
-unfolding token plain made with-attribute T.tile-of T.tensor-found W.view-of W.strided-of
+unfolding token plain made with_attribute T.tile_of T.tensor_found W.view_of W.strided_of
 thin = record {
-  token-is = omega arith;
+  token_is = omega arith;
   scalar = λ e. omega arith;
   pointer = λ e. omega arith;
   tile = λ p c e. omega arith;
   tensor = λ v. omega arith;
   partition = λ m v. omega arith;
-  gather = λ c v. thin-sparse c;
+  gather = λ c v. thin_sparse c;
   strided = λ m l v. omega arith;
   attribute = λ t h. h;
 }

@@ -4,7 +4,7 @@ use mathlib.Core.Bool.{Bool}
 use mathlib.Core.Path.{◌≡◌, sym, ◌∙◌}
 use borrow.Fn.Kinds.{ended_of}
 use denote.Triple.Clauses.{AtExit}
-use Rattle.lexis.proofs.Unique.{One, spot-one}
+use Rattle.lexis.proofs.Unique.{One, spot_one}
 use Rattle.meaning.specs.declared.Record.{Record}
 use Rattle.meaning.specs.declared.Refusal.{Refusal}
 use Rattle.meaning.proofs.normal.blank.Reads as blank
@@ -17,23 +17,23 @@ use Rattle.meaning.proofs.refused.no_note.Reads as no_note
 use Rattle.meaning.proofs.Refusal.number.Reads as number
 use Rattle.meaning.proofs.Refusal.number.Kinds as number-kinds
 
-pub one-blank : (r r' : Record) (s s' : AtExit (ended_of 0 blank-kinds.ps blank-kinds.r) tt) →
+pub one_blank : (r r' : Record) (s s' : AtExit (ended_of 0 blank-kinds.ps blank-kinds.r) tt) →
     blank.Post tt tt r s → blank.Post tt tt r' s' → r ≡ r'
-one-blank r r' s s' p q = p ∙ sym q
+one_blank r r' s s' p q = p ∙ sym q
 
-pub one-is-normal : (r : Record) (e e' : Bool) (s s' : AtExit (ended_of 0 is-normal-kinds.ps is-normal-kinds.r) tt) →
+pub one_is_normal : (r : Record) (e e' : Bool) (s s' : AtExit (ended_of 0 is-normal-kinds.ps is-normal-kinds.r) tt) →
     is_normal.Post tt (r, tt) e s → is_normal.Post tt (r, tt) e' s' → e ≡ e'
-one-is-normal r e e' s s' p q = p ∙ sym q
+one_is_normal r e e' s s' p q = p ∙ sym q
 
 pub one_number : (r : Refusal) (n n' : ℕ) (s s' : AtExit (ended_of 0 number-kinds.ps number-kinds.r) tt) →
     number.Post tt (r, tt) n s → number.Post tt (r, tt) n' s' → n ≡ n'
 one_number r n n' s s' p q = p ∙ sym q
 
-pub one-no-note : One no_note.Post
-one-no-note κs a x y s t p q = p ∙ sym q
+pub one_no_note : One no_note.Post
+one_no_note κs a x y s t p q = p ∙ sym q
 
-pub one-refuse : One refuse.Post
-one-refuse κs a x y s t p q = p ∙ sym q
+pub one_refuse : One refuse.Post
+one_refuse κs a x y s t p q = p ∙ sym q
 
-pub one-first-high : One first-high.Post
-one-first-high κs a x y s t p q = spot-one x y (p ∙ sym q)
+pub one_first_high : One first-high.Post
+one_first_high κs a x y s t p q = spot_one x y (p ∙ sym q)

@@ -9,19 +9,19 @@ abbrev pub When : {A : Type 0} → (A → Type 0) → Option A → Type 0
 When P none = Unit {0}
 When P (some a) = P a
 
-pub all-each : {A B : Type 0} (Q : B → Type 0) (f : A → B) → ((a : A) → Q (f a)) → (o : Option A) → When Q (each f o)
-all-each Q f h none = tt
-all-each Q f h (some a) = h a
+pub all_each : {A B : Type 0} (Q : B → Type 0) (f : A → B) → ((a : A) → Q (f a)) → (o : Option A) → When Q (each f o)
+all_each Q f h none = tt
+all_each Q f h (some a) = h a
 
 module _ {A B : Type 0} (P : A → Type 0) (Q : B → Type 0) where
-  pub when-each : (f : A → B) → ((a : A) → P a → Q (f a)) → (o : Option A) → When P o → When Q (each f o)
-  when-each f h none w = tt
-  when-each f h (some a) w = h a w
+  pub when_each : (f : A → B) → ((a : A) → P a → Q (f a)) → (o : Option A) → When P o → When Q (each f o)
+  when_each f h none w = tt
+  when_each f h (some a) w = h a w
 
-  pub when-bind : (f : A → Option B) → ((a : A) → P a → When Q (f a)) → (o : Option A) → When P o → When Q (o >>= f)
-  when-bind f h none w = tt
-  when-bind f h (some a) w = h a w
+  pub when_bind : (f : A → Option B) → ((a : A) → P a → When Q (f a)) → (o : Option A) → When P o → When Q (o >>= f)
+  when_bind f h none w = tt
+  when_bind f h (some a) w = h a w
 
-pub when-unless : {A : Type 0} (P : A → Type 0) (b : Bool) (a : A) → (b ≡ false → P a) → When P (unless b a)
-when-unless P true a h = tt
-when-unless P false a h = h refl
+pub when_unless : {A : Type 0} (P : A → Type 0) (b : Bool) (a : A) → (b ≡ false → P a) → When P (unless b a)
+when_unless P true a h = tt
+when_unless P false a h = h refl

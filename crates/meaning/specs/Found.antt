@@ -23,8 +23,8 @@ pub record Entry : Type 0 where
 abbrev pub as_read : ℤ → Entry
 as_read z = record { came = read; value = z }
 
-abbrev pub as-fallen : ℤ → Entry
-as-fallen z = record { came = fell; value = z }
+abbrev pub as_fallen : ℤ → Entry
+as_fallen z = record { came = fell; value = z }
 
 -- a list of a type: as its clause stands, or filled in
 pub data Clause : Type 0 where
@@ -146,8 +146,8 @@ plain k e = made k e false unused unused unused unused unused unused Absent
 unfoldable pub token : Found
 token = plain K.Token I1
 
-unfoldable pub with-attribute : Found → Found
-with-attribute t = record {
+unfoldable pub with_attribute : Found → Found
+with_attribute t = record {
   kind = t.kind;
   element = t.element;
   pointer = t.pointer;

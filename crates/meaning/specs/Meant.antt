@@ -13,10 +13,10 @@ use Rattle.meaning.specs.declared.Record.{Record}
 use Rattle.meaning.specs.declared.Reading.{Reading}
 use Rattle.meaning.specs.declared.Refusal.TheVariants.{Accepted, TooLong, HighByte, NotStrict, TooMany}
 use Rattle.meaning.specs.Found.{padded, unnoted}
-use Rattle.meaning.specs.Ordinary.{high-from, refused}
+use Rattle.meaning.specs.Ordinary.{high_from, refused}
 use Rattle.meaning.specs.Decimal.{Dim, in32, in64, size}
 use Rattle.meaning.specs.Strict as S
-use Rattle.meaning.specs.Strict.{Form, Element, Strides, Pads, View, values, entriesOf, scalarOf, paddingOf, spell}
+use Rattle.meaning.specs.Strict.{Form, Element, Strides, Pads, View, values, entries_of, scalar_of, padding_of, spell}
 
 -- a type of any rank
 pub record Any : Type 0 where
@@ -50,55 +50,55 @@ any k e p a shape strides tile map traversal sparse padding = record {
 -- ── meanings ──
 
 -- the strides may be absent at rank 0 only, meaning none
-abbrev pub stridesOf : Strides → List ℤ
-stridesOf S.Strides.absent = []
-stridesOf (S.Strides.given s c) = map size (values c)
+abbrev pub strides_of : Strides → List ℤ
+strides_of S.Strides.absent = []
+strides_of (S.Strides.given s c) = map size (values c)
 
-abbrev pub padsOf : Pads → Padding
-padsOf S.Pads.absent = P.Absent
-padsOf (S.Pads.given p s) = paddingOf p
+abbrev pub meant_pads : Pads → Padding
+meant_pads S.Pads.absent = P.Absent
+meant_pads (S.Pads.given p s) = padding_of p
 
-abbrev pub tileOf : List Dim → Element → Any
-tileOf ds (S.plain n) = any K.Tile (scalarOf n) false false (map size ds) [] [] [] [] (pos 0) P.Absent
-tileOf ds (S.pointer p) = any K.Tile (scalarOf p.name) true p.marked (map size ds) [] [] [] [] (pos 0) P.Absent
+abbrev pub tile_of : List Dim → Element → Any
+tile_of ds (S.plain n) = any K.Tile (scalar_of n) false false (map size ds) [] [] [] [] (pos 0) P.Absent
+tile_of ds (S.pointer p) = any K.Tile (scalar_of p.name) true p.marked (map size ds) [] [] [] [] (pos 0) P.Absent
 
-abbrev pub view_of : Kind → View → List ℤ → List ℤ → ℤ → Any
-view_of k v m t z =
-    any k (scalarOf v.tensor.name) false v.tensor.marked (map size v.tensor.shape) (stridesOf v.tensor.strides) (entriesOf v.tile) m t z (padsOf v.padding)
+abbrev pub meant_view : Kind → View → List ℤ → List ℤ → ℤ → Any
+meant_view k v m t z =
+    any k (scalar_of v.tensor.name) false v.tensor.marked (map size v.tensor.shape) (strides_of v.tensor.strides) (entries_of v.tile) m t z (meant_pads v.padding)
 
 abbrev pub mean : Form → Any
-mean (S.scalar n) = any K.Scalar (scalarOf n) false false [] [] [] [] [] (pos 0) P.Absent
+mean (S.scalar n) = any K.Scalar (scalar_of n) false false [] [] [] [] [] (pos 0) P.Absent
 mean (S.token p) = any K.Token I1 false false [] [] [] [] [] (pos 0) P.Absent
-mean (S.ptr p) = any K.Pointer (scalarOf p.name) false p.marked [] [] [] [] [] (pos 0) P.Absent
-mean (S.tile p ds e) = tileOf ds e
-mean (S.tensor p t) = any K.TensorView (scalarOf t.name) false t.marked (map size t.shape) (stridesOf t.strides) [] [] [] (pos 0) P.Absent
-mean (S.partition v c) = view_of K.Partition v (values c) [] (pos 0)
-mean (S.gather v z) = view_of K.GatherScatter v [] [] z
-mean (S.strided v c s d) = view_of K.Strided v (values d) (values c) (pos 0)
+mean (S.ptr p) = any K.Pointer (scalar_of p.name) false p.marked [] [] [] [] [] (pos 0) P.Absent
+mean (S.tile p ds e) = tile_of ds e
+mean (S.tensor p t) = any K.TensorView (scalar_of t.name) false t.marked (map size t.shape) (strides_of t.strides) [] [] [] (pos 0) P.Absent
+mean (S.partition v c) = meant_view K.Partition v (values c) [] (pos 0)
+mean (S.gather v z) = meant_view K.GatherScatter v [] [] z
+mean (S.strided v c s d) = meant_view K.Strided v (values d) (values c) (pos 0)
 
 -- ── well formed ──
 
-abbrev pub eachOf {ℓ} : {A : Type ℓ} → (A → Bool) → List A → Bool
-eachOf f [] = true
-eachOf f (x ∷ xs) = f x && eachOf f xs
+abbrev pub each_of {ℓ} : {A : Type ℓ} → (A → Bool) → List A → Bool
+each_of f [] = true
+each_of f (x ∷ xs) = f x && each_of f xs
 
-abbrev pub tensorOk : List Dim → Strides → Bool
-tensorOk [] S.Strides.absent = true
-tensorOk (d ∷ ds) S.Strides.absent = false
-tensorOk ds (S.Strides.given s c) = eachOf in64 ds && eachOf in64 (values c)
+abbrev pub tensor_ok : List Dim → Strides → Bool
+tensor_ok [] S.Strides.absent = true
+tensor_ok (d ∷ ds) S.Strides.absent = false
+tensor_ok ds (S.Strides.given s c) = each_of in64 ds && each_of in64 (values c)
 
-abbrev pub viewOk : View → Bool
-viewOk v = eachOf in32 (entriesOf v.tile) && tensorOk v.tensor.shape v.tensor.strides
+abbrev pub view_ok : View → Bool
+view_ok v = each_of in32 (entries_of v.tile) && tensor_ok v.tensor.shape v.tensor.strides
 
 abbrev pub ok : Form → Bool
 ok (S.scalar n) = true
 ok (S.token p) = true
 ok (S.ptr p) = true
-ok (S.tile p ds e) = eachOf in64 ds
-ok (S.tensor p t) = tensorOk t.shape t.strides
-ok (S.partition v c) = viewOk v && eachOf in32 (values c)
-ok (S.gather v z) = viewOk v && in32 z
-ok (S.strided v c s d) = viewOk v && eachOf in32 (values c) && eachOf in32 (values d)
+ok (S.tile p ds e) = each_of in64 ds
+ok (S.tensor p t) = tensor_ok t.shape t.strides
+ok (S.partition v c) = view_ok v && each_of in32 (values c)
+ok (S.gather v z) = view_ok v && in32 z
+ok (S.strided v c s d) = view_ok v && each_of in32 (values c) && each_of in32 (values d)
 
 -- a strict text and its meaning
 pub record Strict (t : Text) (a : Any) : Type 0 where
@@ -115,8 +115,8 @@ fits cap a =
     leb (length a.shape) cap && leb (length a.strides) cap && leb (length a.tile) cap && leb (length a.map) cap && leb (length a.traversal) cap
 
 -- the record of a type, at a capacity
-unfoldable pub flat-any : ℕ → Any → Record
-flat-any cap a = record {
+unfoldable pub flat_any : ℕ → Any → Record
+flat_any cap a = record {
   kind = a.kind;
   element = a.element;
   pointer = a.pointer;
@@ -136,18 +136,18 @@ flat-any cap a = record {
 }
 
 unfoldable pub taken : ℕ → Any → Reading
-taken cap a = record { refusal = Accepted; place = 0; value = flat-any cap a; note = unnoted }
+taken cap a = record { refusal = Accepted; place = 0; value = flat_any cap a; note = unnoted }
 
 -- an ASCII text within the limit: it is strict and within the capacity, or strict and not, or not strict at any rank
 pub data Judged (cap : ℕ) (s : Text) : Reading → Type 0 where
   accepted : (a : Any) → Strict s a → T (fits cap a) → Judged cap s (taken cap a)
   too_many : (a : Any) → Strict s a → T (not (fits cap a)) → Judged cap s (refused cap TooMany 0)
-  not-strict : ((a : Any) → Strict s a → ⊥) → Judged cap s (refused cap NotStrict 0)
+  not_strict : ((a : Any) → Strict s a → ⊥) → Judged cap s (refused cap NotStrict 0)
 
-abbrev pub Read-ascii : ℕ → Text → Option ℕ → Reading → Type 0
-Read-ascii cap s (some place) r = r ≡ refused cap HighByte place
-Read-ascii cap s none r = Judged cap s r
+abbrev pub ReadAscii : ℕ → Text → Option ℕ → Reading → Type 0
+ReadAscii cap s (some place) r = r ≡ refused cap HighByte place
+ReadAscii cap s none r = Judged cap s r
 
 -- for lists of at most `cap` entries and texts of at most `size` bytes
 abbrev pub Strictly : ℕ → ℕ → Text → Reading → Type 0
-Strictly cap size s r = elim (leb (length s) size) [ true ↦ Read-ascii cap s (high-from 0 s) r | false ↦ r ≡ refused cap TooLong 0 ]
+Strictly cap size s r = elim (leb (length s) size) [ true ↦ ReadAscii cap s (high_from 0 s) r | false ↦ r ≡ refused cap TooLong 0 ]

@@ -17,35 +17,35 @@ abbrev pub is_zero : ℤ → Bool
 is_zero (pos n) = eqb n 0
 is_zero (negsuc n) = false
 
-abbrev pub all-zero : List ℤ → Bool
-all-zero [] = true
-all-zero (z ∷ zs) = is_zero z && all-zero zs
+abbrev pub all_zero : List ℤ → Bool
+all_zero [] = true
+all_zero (z ∷ zs) = is_zero z && all_zero zs
 
-abbrev pub is-i1 : Scalar → Bool
-is-i1 I1 = true
-is-i1 I4 = false
-is-i1 I8 = false
-is-i1 I16 = false
-is-i1 I32 = false
-is-i1 I64 = false
-is-i1 F16 = false
-is-i1 BF16 = false
-is-i1 F32 = false
-is-i1 TF32 = false
-is-i1 F64 = false
-is-i1 F8E4M3FN = false
-is-i1 F8E5M2 = false
-is-i1 F8E8M0FNU = false
-is-i1 F4E2M1FN = false
-is-i1 F8E5M3FNU = false
+abbrev pub is_i1 : Scalar → Bool
+is_i1 I1 = true
+is_i1 I4 = false
+is_i1 I8 = false
+is_i1 I16 = false
+is_i1 I32 = false
+is_i1 I64 = false
+is_i1 F16 = false
+is_i1 BF16 = false
+is_i1 F32 = false
+is_i1 TF32 = false
+is_i1 F64 = false
+is_i1 F8E4M3FN = false
+is_i1 F8E5M2 = false
+is_i1 F8E8M0FNU = false
+is_i1 F4E2M1FN = false
+is_i1 F8E5M3FNU = false
 
-abbrev pub is-absent : Padding → Bool
-is-absent Absent = true
-is-absent Zero = false
-is-absent NegZero = false
-is-absent Nan = false
-is-absent PosInf = false
-is-absent NegInf = false
+abbrev pub is_absent : Padding → Bool
+is_absent Absent = true
+is_absent Zero = false
+is_absent NegZero = false
+is_absent Nan = false
+is_absent PosInf = false
+is_absent NegInf = false
 
 -- ── what each kind uses; the attribute flag all do ──
 
@@ -83,22 +83,22 @@ uses K.Token = row no no no no no no no no no
 
 -- a list of n entries in an array: n is at most the capacity, or 0 where the kind has no such list, and zeros stand past it
 abbrev pub clear : ℕ → Bool → ℕ → List ℤ → Bool
-clear cap used n l = leb n (if used then cap else 0) && all-zero (drop n l)
+clear cap used n l = leb n (if used then cap else 0) && all_zero (drop n l)
 
-unfoldable pub lists-clear : ℕ → Uses → Record → Bool
-lists-clear cap u r =
+unfoldable pub lists_clear : ℕ → Uses → Record → Bool
+lists_clear cap u r =
     clear cap u.shape r.shape_len r.shape
     && clear cap u.strides r.strides_len r.strides
     && clear cap u.tile r.tile_len r.tile
     && clear cap u.map r.map_len r.map
     && clear cap u.traversal r.traversal_len r.traversal
 
-unfoldable pub rest-blank : Uses → Record → Bool
-rest-blank u r =
-    (u.element || is-i1 r.element)
+unfoldable pub rest_blank : Uses → Record → Bool
+rest_blank u r =
+    (u.element || is_i1 r.element)
     && (u.pointer || not r.pointer)
     && (u.sparse || is_zero r.sparse)
-    && (u.padding || is-absent r.padding)
+    && (u.padding || is_absent r.padding)
 
 unfoldable pub normal : ℕ → Record → Bool
-normal cap r = lists-clear cap (uses r.kind) r && rest-blank (uses r.kind) r
+normal cap r = lists_clear cap (uses r.kind) r && rest_blank (uses r.kind) r

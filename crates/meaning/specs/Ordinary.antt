@@ -3,11 +3,11 @@ use Rattle.std.specs.Prelude.{ℕ, zero, suc, Bool, true, false, ◌||◌, List,
 use Prim.Native.String.{String}
 use Rattle.std.proofs.Math.Option.{Option, none, some}
 use Rattle.lexis.specs.Text.{Text, bytes, if◌then◌else◌, same, trim, Cut, nowhere, at, cut}
-use Rattle.scalars.specs.Names.{scalar-name}
+use Rattle.scalars.specs.Names.{scalar_name}
 use Rattle.meaning.specs.Parts.{each, bracketed, remove}
-use Rattle.meaning.specs.Found.{Found, plain, token, with-attribute, flat, within, counts, unnoted}
-use Rattle.meaning.specs.Tile.{tile, tensor-view}
-use Rattle.meaning.specs.Views.{partition-view, gather-scatter-view, strided-view}
+use Rattle.meaning.specs.Found.{Found, plain, token, with_attribute, flat, within, counts, unnoted}
+use Rattle.meaning.specs.Tile.{tile, tensor_view}
+use Rattle.meaning.specs.Views.{partition_view, gather_scatter_view, strided_view}
 use Rattle.meaning.specs.declared.Kind.TheVariants as K
 use Rattle.meaning.specs.declared.Note.{Note}
 use Rattle.meaning.specs.declared.Reading.{Reading}
@@ -15,7 +15,7 @@ use Rattle.meaning.specs.declared.Refusal.{Refusal}
 use Rattle.meaning.specs.declared.Refusal.TheVariants.{Accepted, TooLong, HighByte, NoType, TooMany}
 
 unfoldable pub pointer : Text → Option Found
-pointer s = each (plain K.Pointer) (scalar-name s)
+pointer s = each (plain K.Pointer) (scalar_name s)
 
 -- a form: what it opens with, and how its content is read
 pub record Form : Type 0 where
@@ -30,26 +30,26 @@ p reads f = record { opens = p; content = f }
 unfoldable pub forms : List Form
 forms =
     "!cuda_tile.tile<" reads tile ∷
-    "!cuda_tile.tensor_view<" reads tensor-view ∷
-    "!cuda_tile.partition_view<" reads partition-view ∷
-    "!cuda_tile.gather_scatter_view<" reads gather-scatter-view ∷
-    "!cuda_tile.strided_view<" reads strided-view ∷
+    "!cuda_tile.tensor_view<" reads tensor_view ∷
+    "!cuda_tile.partition_view<" reads partition_view ∷
+    "!cuda_tile.gather_scatter_view<" reads gather_scatter_view ∷
+    "!cuda_tile.strided_view<" reads strided_view ∷
     "!cuda_tile.ptr<" reads pointer ∷
     "tile<" reads tile ∷
-    "tensor_view<" reads tensor-view ∷
-    "partition_view<" reads partition-view ∷
-    "gather_scatter_view<" reads gather-scatter-view ∷
-    "strided_view<" reads strided-view ∷
+    "tensor_view<" reads tensor_view ∷
+    "partition_view<" reads partition_view ∷
+    "gather_scatter_view<" reads gather_scatter_view ∷
+    "strided_view<" reads strided_view ∷
     "ptr<" reads pointer ∷ []
 
 -- a form that applies decides: where its content can't be read, no other form is tried; at last a bare scalar
-abbrev pub by-forms : List Form → Text → Option Found
-by-forms [] s = each (plain K.Scalar) (scalar-name s)
-by-forms (f ∷ fs) s = elim (bracketed (bytes f.opens) s) [ some t ↦ f.content t | none ↦ by-forms fs s ]
+abbrev pub by_forms : List Form → Text → Option Found
+by_forms [] s = each (plain K.Scalar) (scalar_name s)
+by_forms (f ∷ fs) s = elim (bracketed (bytes f.opens) s) [ some t ↦ f.content t | none ↦ by_forms fs s ]
 
 -- a trimmed text without marks
 unfoldable pub unmarked : Text → Option Found
-unmarked s = if same s (bytes "!cuda_tile.token") || same s (bytes "token") then some token else by-forms forms s
+unmarked s = if same s (bytes "!cuda_tile.token") || same s (bytes "token") then some token else by_forms forms s
 
 unfoldable pub mark : Text
 mark = bytes ", #cuda_tile.ptr_attr<none>"
@@ -57,7 +57,7 @@ mark = bytes ", #cuda_tile.ptr_attr<none>"
 -- trim; while the mark occurs, remove all and read again, at most n times
 abbrev pub passes : ℕ → Text → Option Found
 passes zero s = none
-passes (suc n) s = elim (cut mark (trim s)) [ nowhere ↦ unmarked (trim s) | at u t ↦ each with-attribute (passes n (remove mark (trim s))) ]
+passes (suc n) s = elim (cut mark (trim s)) [ nowhere ↦ unmarked (trim s) | at u t ↦ each with_attribute (passes n (remove mark (trim s))) ]
 
 -- each pass shortens the text, so that its length is passes enough
 unfoldable pub parse : Text → Option Found
@@ -66,9 +66,9 @@ parse s = passes (suc (length s)) s
 -- ── the ordinary reader's answer: refusals 1, 2, 3, 4 in this order ──
 
 -- the place of the first byte of 128 or more, counted from k
-abbrev pub high-from : ℕ → Text → Option ℕ
-high-from k [] = none
-high-from k (b ∷ s) = if leb 128 b then some k else high-from (suc k) s
+abbrev pub high_from : ℕ → Text → Option ℕ
+high_from k [] = none
+high_from k (b ∷ s) = if leb 128 b then some k else high_from (suc k) s
 
 -- the blank record and zero counts
 unfoldable pub refused : ℕ → Refusal → ℕ → Reading
@@ -81,10 +81,10 @@ abbrev pub judged : ℕ → Option Found → Reading
 judged cap none = refused cap NoType 0
 judged cap (some t) = if within cap t then accepted cap t else refused cap TooMany 0
 
-abbrev pub read-ascii : ℕ → Text → Option ℕ → Reading
-read-ascii cap s (some place) = refused cap HighByte place
-read-ascii cap s none = judged cap (parse s)
+abbrev pub read_ascii : ℕ → Text → Option ℕ → Reading
+read_ascii cap s (some place) = refused cap HighByte place
+read_ascii cap s none = judged cap (parse s)
 
 -- for lists of at most `cap` entries and texts of at most `size` bytes
 unfoldable pub ordinary : ℕ → ℕ → Text → Reading
-ordinary cap size s = if leb (length s) size then read-ascii cap s (high-from 0 s) else refused cap TooLong 0
+ordinary cap size s = if leb (length s) size then read_ascii cap s (high_from 0 s) else refused cap TooLong 0

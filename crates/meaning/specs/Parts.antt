@@ -46,18 +46,18 @@ close d [] = nowhere
 close d (b ∷ s) = elim (depth d b) [ none ↦ at [] s | some e ↦ later b (close e s) ]
 
 -- s without the `>` at its end, if one stands there
-abbrev pub less-final : Text → Option Text
-less-final [] = none
-less-final (b ∷ []) = if eqb b (code ">") then some [] else none
-less-final (b ∷ c ∷ s) = each (λ t. b ∷ t) (less-final (c ∷ s))
+abbrev pub less_final : Text → Option Text
+less_final [] = none
+less_final (b ∷ []) = if eqb b (code ">") then some [] else none
+less_final (b ∷ c ∷ s) = each (λ t. b ∷ t) (less_final (c ∷ s))
 
 -- with no match, a final `>` is dropped; without one the form doesn't apply
-abbrev pub content-by : Text → Cut → Option Text
-content-by s (at u t) = some u
-content-by s nowhere = less-final s
+abbrev pub content_by : Text → Cut → Option Text
+content_by s (at u t) = some u
+content_by s nowhere = less_final s
 
 abbrev pub content : Text → Option Text
-content s = content-by s (close 0 s)
+content s = content_by s (close 0 s)
 
 -- the content of the form that opens with p, where that form applies
 abbrev pub bracketed : Text → Text → Option Text
@@ -73,15 +73,15 @@ only m zero (b ∷ s) = if begins m (b ∷ s) then only m (length m - 1) s else 
 only m (suc k) (b ∷ s) = only m k s
 
 -- s without every m at its end
-abbrev pub less-repeats : Text → Text → Text
-less-repeats m [] = []
-less-repeats m (b ∷ s) = if only m 0 (b ∷ s) then [] else b ∷ less-repeats m s
+abbrev pub less_repeats : Text → Text → Text
+less_repeats m [] = []
+less_repeats m (b ∷ s) = if only m 0 (b ∷ s) then [] else b ∷ less_repeats m s
 
 -- s without every m, from left to right, k bytes of one still to be passed over
-abbrev pub less-all : Text → ℕ → Text → Text
-less-all m k [] = []
-less-all m zero (b ∷ s) = if begins m (b ∷ s) then less-all m (length m - 1) s else b ∷ less-all m zero s
-less-all m (suc k) (b ∷ s) = less-all m k s
+abbrev pub less_all : Text → ℕ → Text → Text
+less_all m k [] = []
+less_all m zero (b ∷ s) = if begins m (b ∷ s) then less_all m (length m - 1) s else b ∷ less_all m zero s
+less_all m (suc k) (b ∷ s) = less_all m k s
 
 abbrev pub remove : Text → Text → Text
-remove m s = less-all m 0 s
+remove m s = less_all m 0 s

@@ -56,14 +56,14 @@ Name = Place 22
 abbrev pub word : Name → Text
 word n = nth [] words n.index
 
-abbrev pub scalarOf : Name → Scalar
-scalarOf n = nth I1 scalars n.index
+abbrev pub scalar_of : Name → Scalar
+scalar_of n = nth I1 scalars n.index
 
 abbrev pub pad : Place 5 → Text
 pad p = nth [] pads p.index
 
-abbrev pub paddingOf : Place 5 → Padding
-paddingOf p = nth P.Zero paddings p.index
+abbrev pub padding_of : Place 5 → Padding
+padding_of p = nth P.Zero paddings p.index
 
 -- ── lists of at least one entry; after a comma one space may stand or not ──
 
@@ -99,16 +99,16 @@ xrest [] = []
 xrest (z ∷ zs) = bytes "x" ⊕ decimal z ⊕ xrest zs
 
 pub data Entries : Type 0 where
-  byX : ℤ → List ℤ → Entries
-  byComma : Commas ℤ → Entries
+  by_x : ℤ → List ℤ → Entries
+  by_comma : Commas ℤ → Entries
 
 abbrev pub entries : Entries → Text
-entries (byX z zs) = decimal z ⊕ xrest zs
-entries (byComma c) = commas decimal c
+entries (by_x z zs) = decimal z ⊕ xrest zs
+entries (by_comma c) = commas decimal c
 
-abbrev pub entriesOf : Entries → List ℤ
-entriesOf (byX z zs) = z ∷ zs
-entriesOf (byComma c) = values c
+abbrev pub entries_of : Entries → List ℤ
+entries_of (by_x z zs) = z ∷ zs
+entries_of (by_comma c) = values c
 
 -- ── the parts of forms ──
 
@@ -125,8 +125,8 @@ pub record Pointer : Type 0 where
   pub name : Name
   pub marked : Bool
 
-abbrev pub pointerText : Pointer → Text
-pointerText p = cuda p.front ⊕ bytes "ptr<" ⊕ word p.name ⊕ mark p.marked ⊕ bytes ">"
+abbrev pub pointer_text : Pointer → Text
+pointer_text p = cuda p.front ⊕ bytes "ptr<" ⊕ word p.name ⊕ mark p.marked ⊕ bytes ">"
 
 pub data Element : Type 0 where
   plain : Name → Element
@@ -134,7 +134,7 @@ pub data Element : Type 0 where
 
 abbrev pub element : Element → Text
 element (plain n) = word n
-element (pointer p) = pointerText p
+element (pointer p) = pointer_text p
 
 -- the strides' list, or none
 pub data Strides : Type 0 where
@@ -160,18 +160,18 @@ pub data Pads : Type 0 where
   absent : Pads
   given : Place 5 → Bool → Pads
 
-abbrev pub padText : Pads → Text
-padText absent = []
-padText (given p s) = bytes "padding_value=" ⊕ pad p ⊕ comma s
+abbrev pub pad_text : Pads → Text
+pad_text absent = []
+pad_text (given p s) = bytes "padding_value=" ⊕ pad p ⊕ comma s
 
 -- how a view's tensor view is introduced: `tensor_view=` may stand if `!cuda_tile.` follows
 pub data Intro : Type 0 where
   bare prefixed named : Intro
 
-abbrev pub introText : Intro → Text
-introText bare = []
-introText prefixed = bytes "!cuda_tile."
-introText named = bytes "tensor_view=!cuda_tile."
+abbrev pub intro_text : Intro → Text
+intro_text bare = []
+intro_text prefixed = bytes "!cuda_tile."
+intro_text named = bytes "tensor_view=!cuda_tile."
 
 -- what the three views share; the spaces are those after the tile's comma and after the tensor view's
 pub record View : Type 0 where
@@ -187,15 +187,15 @@ pub record View : Type 0 where
 abbrev pub inner : Text → Text → Text → Text → Text → Text → Text → Text → Text
 inner e c m p i b c' d = bytes "tile=(" ⊕ e ⊕ bytes ")" ⊕ c ⊕ m ⊕ p ⊕ i ⊕ bytes "tensor_view<" ⊕ b ⊕ bytes ">" ⊕ c' ⊕ d
 
-abbrev pub viewText : View → Text → Text → Text
-viewText v middle end =
-    inner (entries v.tile) (comma v.space) middle (padText v.padding) (introText v.intro) (body v.tensor) (comma v.space') end
+abbrev pub view_text : View → Text → Text → Text
+view_text v middle end =
+    inner (entries v.tile) (comma v.space) middle (pad_text v.padding) (intro_text v.intro) (body v.tensor) (comma v.space') end
 
-abbrev pub mapText : Commas ℤ → Text
-mapText c = bytes "dim_map=[" ⊕ commas decimal c ⊕ bytes "]"
+abbrev pub map_text : Commas ℤ → Text
+map_text c = bytes "dim_map=[" ⊕ commas decimal c ⊕ bytes "]"
 
-abbrev pub travelText : Commas ℤ → Bool → Text
-travelText c s = bytes "traversal_strides=[" ⊕ commas decimal c ⊕ bytes "]" ⊕ comma s
+abbrev pub travel_text : Commas ℤ → Bool → Text
+travel_text c s = bytes "traversal_strides=[" ⊕ commas decimal c ⊕ bytes "]" ⊕ comma s
 
 -- ── the forms and their texts ──
 
@@ -213,9 +213,9 @@ pub data Form : Type 0 where
 abbrev pub spell : Form → Text
 spell (scalar n) = word n
 spell (token p) = cuda p ⊕ bytes "token"
-spell (ptr p) = pointerText p
+spell (ptr p) = pointer_text p
 spell (tile p ds e) = cuda p ⊕ bytes "tile<" ⊕ dims ds ⊕ element e ⊕ bytes ">"
 spell (tensor p t) = cuda p ⊕ bytes "tensor_view<" ⊕ body t ⊕ bytes ">"
-spell (partition v c) = cuda v.front ⊕ bytes "partition_view<" ⊕ viewText v [] (mapText c) ⊕ bytes ">"
-spell (gather v z) = cuda v.front ⊕ bytes "gather_scatter_view<" ⊕ viewText v [] (bytes "sparse_dim=" ⊕ decimal z) ⊕ bytes ">"
-spell (strided v c s d) = cuda v.front ⊕ bytes "strided_view<" ⊕ viewText v (travelText c s) (mapText d) ⊕ bytes ">"
+spell (partition v c) = cuda v.front ⊕ bytes "partition_view<" ⊕ view_text v [] (map_text c) ⊕ bytes ">"
+spell (gather v z) = cuda v.front ⊕ bytes "gather_scatter_view<" ⊕ view_text v [] (bytes "sparse_dim=" ⊕ decimal z) ⊕ bytes ">"
+spell (strided v c s d) = cuda v.front ⊕ bytes "strided_view<" ⊕ view_text v (travel_text c s) (map_text d) ⊕ bytes ">"

@@ -7,7 +7,7 @@ use Rattle.lexis.specs.Text.{Text, bytes, if◌then◌else◌, trim, until, spli
 use Rattle.numerals.specs.Numeral.{numeral}
 use Rattle.meaning.specs.Parts.{each, between, close}
 use Rattle.meaning.specs.Found.{Entry, Clause, stands, filled, Found, made, unused}
-use Rattle.meaning.specs.Tile.{read-or, Tensor, tensor}
+use Rattle.meaning.specs.Tile.{read_or, Tensor, tensor}
 use Rattle.meaning.specs.declared.Kind.{Kind}
 use Rattle.meaning.specs.declared.Kind.TheVariants as K
 use Rattle.meaning.specs.declared.Padding.{Padding}
@@ -15,13 +15,13 @@ use Rattle.meaning.specs.declared.Padding.TheVariants.{Absent, Zero, NegZero, Na
 
 -- an entry of the 32-bit lists, d where it is unreadable
 unfoldable pub small : ℤ → Text → Entry
-small d s = read-or d (numeral 32 (trim s))
+small d s = read_or d (numeral 32 (trim s))
 
 -- ── what the three share: tile shape, inner tensor view, padding ──
 
 -- split at `x` if one occurs, else at commas; an unreadable entry is 1
-unfoldable pub tile-entries : Text → List Entry
-tile-entries s = L.map (small (pos 1)) (split (if occurs (bytes "x") s then code "x" else code ",") s)
+unfoldable pub tile_entries : Text → List Entry
+tile_entries s = L.map (small (pos 1)) (split (if occurs (bytes "x") s then code "x" else code ",") s)
 
 infixr 25 ◌or◌
 -- what follows a first occurrence, or else another way
@@ -41,9 +41,9 @@ abbrev pub enclosed : Cut → Text
 enclosed (at u t) = u
 enclosed nowhere = []
 
-abbrev pub inner-by : Option Text → Option Tensor
-inner-by none = none
-inner-by (some t) = tensor (enclosed (close 0 t))
+abbrev pub inner_by : Option Text → Option Tensor
+inner_by none = none
+inner_by (some t) = tensor (enclosed (close 0 t))
 
 -- looked for only if `padding_value` occurs, and anywhere in the part
 unfoldable pub padding : Text → Padding
@@ -62,12 +62,12 @@ pub record View : Type 0 where
   pub padding : Padding
 
 -- by the first `tile=(` and the next `)`
-abbrev pub view-by : Text → Cut → Option View
-view-by s nowhere = none
-view-by s (at u behind) = each (λ v. record { tile = tile-entries u; tensor = v; padding = padding s }) (inner-by (opened s behind))
+abbrev pub view_by : Text → Cut → Option View
+view_by s nowhere = none
+view_by s (at u behind) = each (λ v. record { tile = tile_entries u; tensor = v; padding = padding s }) (inner_by (opened s behind))
 
 unfoldable pub view : Text → Option View
-view s = view-by s (between (bytes "tile=(") (bytes ")") s)
+view s = view_by s (between (bytes "tile=(") (bytes ")") s)
 
 -- ── dim map, traversal strides, sparse dimension ──
 
@@ -80,69 +80,69 @@ abbrev pub closed : Cut → Listed
 closed nowhere = unclosed
 closed (at u t) = listed u
 
-abbrev pub list-by : Cut → Listed
-list-by nowhere = absent
-list-by (at u t) = closed (cut (bytes "]") t)
+abbrev pub list_by : Cut → Listed
+list_by nowhere = absent
+list_by (at u t) = closed (cut (bytes "]") t)
 
 -- the list after the first p
-abbrev pub list-after : Text → Text → Listed
-list-after p s = list-by (cut p s)
+abbrev pub list_after : Text → Text → Listed
+list_after p s = list_by (cut p s)
 
 -- an unreadable entry is 0
 unfoldable pub entries : Text → Clause
 entries s = stands (L.map (small (pos 0)) (split (code ",") s))
 
 -- 0, 1, 2 ..: n of them, from k
-abbrev pub count-up : ℕ → ℕ → List ℤ
-count-up k zero = []
-count-up k (suc n) = pos k ∷ count-up (k + 1) n
+abbrev pub count_up : ℕ → ℕ → List ℤ
+count_up k zero = []
+count_up k (suc n) = pos k ∷ count_up (k + 1) n
 
 -- the map and the traversal strides that fill in: as many as tile entries
-abbrev pub own-map : View → Clause
-own-map v = filled (count-up 0 (length v.tile))
+abbrev pub own_map : View → Clause
+own_map v = filled (count_up 0 (length v.tile))
 
-abbrev pub own-traversal : View → Clause
-own-traversal v = filled (replicate (length v.tile) (pos 1))
+abbrev pub own_traversal : View → Clause
+own_traversal v = filled (replicate (length v.tile) (pos 1))
 
 -- absent or never closed
-abbrev pub list-or : Clause → Listed → Clause
-list-or c absent = c
-list-or c unclosed = c
-list-or c (listed s) = entries s
+abbrev pub list_or : Clause → Listed → Clause
+list_or c absent = c
+list_or c unclosed = c
+list_or c (listed s) = entries s
 
-abbrev pub ends-sparse : ℕ → Bool
-ends-sparse b = eqb b (code ",") || eqb b (code ">")
+abbrev pub ends_sparse : ℕ → Bool
+ends_sparse b = eqb b (code ",") || eqb b (code ">")
 
 -- `sparse_dim=` runs to `,`, `>` or the end
-abbrev pub sparse-by : Cut → Clause
-sparse-by nowhere = filled (pos 0 ∷ [])
-sparse-by (at u t) = stands (small (pos 0) (until ends-sparse t) ∷ [])
+abbrev pub sparse_by : Cut → Clause
+sparse_by nowhere = filled (pos 0 ∷ [])
+sparse_by (at u t) = stands (small (pos 0) (until ends_sparse t) ∷ [])
 
 -- ── the views ──
 
-unfoldable pub view-of : Kind → Clause → Clause → Clause → View → Found
-view-of k map traversal sparse v =
+unfoldable pub view_of : Kind → Clause → Clause → Clause → View → Found
+view_of k map traversal sparse v =
     made k v.tensor.element false v.tensor.shape v.tensor.strides (stands v.tile) map traversal sparse v.padding
 
 -- an unclosed list refuses a partition view
-abbrev pub partition-by : View → Listed → Option Found
-partition-by v absent = some (view-of K.Partition (own-map v) unused unused v)
-partition-by v unclosed = none
-partition-by v (listed s) = some (view-of K.Partition (entries s) unused unused v)
+abbrev pub partition_by : View → Listed → Option Found
+partition_by v absent = some (view_of K.Partition (own_map v) unused unused v)
+partition_by v unclosed = none
+partition_by v (listed s) = some (view_of K.Partition (entries s) unused unused v)
 
-abbrev pub partition-from : Listed → Option View → Option Found
-partition-from l none = none
-partition-from l (some v) = partition-by v l
+abbrev pub partition_from : Listed → Option View → Option Found
+partition_from l none = none
+partition_from l (some v) = partition_by v l
 
-unfoldable pub partition-view : Text → Option Found
-partition-view s = partition-from (list-after (bytes "dim_map=[") s) (view s)
+unfoldable pub partition_view : Text → Option Found
+partition_view s = partition_from (list_after (bytes "dim_map=[") s) (view s)
 
-unfoldable pub gather-scatter-view : Text → Option Found
-gather-scatter-view s = each (view-of K.GatherScatter unused unused (sparse-by (cut (bytes "sparse_dim=") s))) (view s)
+unfoldable pub gather_scatter_view : Text → Option Found
+gather_scatter_view s = each (view_of K.GatherScatter unused unused (sparse_by (cut (bytes "sparse_dim=") s))) (view s)
 
 -- but counts as absent in a strided view
-unfoldable pub strided-of : Listed → Listed → View → Found
-strided-of m t v = view-of K.Strided (list-or (own-map v) m) (list-or (own-traversal v) t) unused v
+unfoldable pub strided_of : Listed → Listed → View → Found
+strided_of m t v = view_of K.Strided (list_or (own_map v) m) (list_or (own_traversal v) t) unused v
 
-unfoldable pub strided-view : Text → Option Found
-strided-view s = each (strided-of (list-after (bytes "dim_map=[") s) (list-after (bytes "traversal_strides=[") s)) (view s)
+unfoldable pub strided_view : Text → Option Found
+strided_view s = each (strided_of (list_after (bytes "dim_map=[") s) (list_after (bytes "traversal_strides=[") s)) (view s)

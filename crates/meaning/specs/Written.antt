@@ -17,7 +17,7 @@ use Rattle.meaning.specs.Normal.{normal}
 use Rattle.meaning.specs.Parts.{each}
 use Rattle.meaning.specs.Decimal.{Dim, dynamic, known}
 use Rattle.meaning.specs.Strict as S
-use Rattle.meaning.specs.Strict.{Name, Commas, Entries, byX, Strides, Pads, Tensor, Pointer, View, Form, spell}
+use Rattle.meaning.specs.Strict.{Name, Commas, Entries, by_x, Strides, Pads, Tensor, Pointer, View, Form, spell}
 
 infixl 20 ◌>>=◌
 abbrev pub ◌>>=◌ : {A B : Type 0} → Option A → (A → Option B) → Option B
@@ -49,21 +49,21 @@ first F8E8M0FNU = record { index = 15; within = tt }
 first F4E2M1FN = record { index = 17; within = tt }
 first F8E5M3FNU = record { index = 19; within = tt }
 
-abbrev pub pads-of : Padding → Pads
-pads-of Absent = S.Pads.absent
-pads-of Zero = S.Pads.given (record { index = 0; within = tt }) true
-pads-of NegZero = S.Pads.given (record { index = 1; within = tt }) true
-pads-of Nan = S.Pads.given (record { index = 2; within = tt }) true
-pads-of PosInf = S.Pads.given (record { index = 3; within = tt }) true
-pads-of NegInf = S.Pads.given (record { index = 4; within = tt }) true
+abbrev pub pads_of : Padding → Pads
+pads_of Absent = S.Pads.absent
+pads_of Zero = S.Pads.given (record { index = 0; within = tt }) true
+pads_of NegZero = S.Pads.given (record { index = 1; within = tt }) true
+pads_of Nan = S.Pads.given (record { index = 2; within = tt }) true
+pads_of PosInf = S.Pads.given (record { index = 3; within = tt }) true
+pads_of NegInf = S.Pads.given (record { index = 4; within = tt }) true
 
 -- the smallest i64 is `?`
 abbrev pub unknown : ℤ → Bool
 unknown (pos n) = false
 unknown (negsuc n) = eqb n (2 ^ 63 - 1)
 
-abbrev pub dimension-of : ℤ → Dim
-dimension-of z = if unknown z then dynamic else known z
+abbrev pub dimension_of : ℤ → Dim
+dimension_of z = if unknown z then dynamic else known z
 
 -- an empty list has no text
 abbrev pub listed : {A : Type 0} → (ℤ → A) → List ℤ → Option (Commas A)
@@ -71,72 +71,72 @@ listed f [] = none
 listed f (z ∷ zs) = some (record { head = f z; tail = map (λ (z : ℤ). record { space = false; entry = f z }) zs })
 
 -- tile entries are parted by `x`
-abbrev pub by-x : List ℤ → Option Entries
-by-x [] = none
-by-x (z ∷ zs) = some (byX z zs)
+abbrev pub x_joined : List ℤ → Option Entries
+x_joined [] = none
+x_joined (z ∷ zs) = some (by_x z zs)
 
 -- strides are present unless empty; empty strides with a shape have no text
-abbrev pub strides-of : List ℤ → List ℤ → Option Strides
-strides-of [] [] = some S.Strides.absent
-strides-of (d ∷ ds) [] = none
-strides-of ds (z ∷ zs) = each (S.Strides.given true) (listed dimension-of (z ∷ zs))
+abbrev pub strides_of : List ℤ → List ℤ → Option Strides
+strides_of [] [] = some S.Strides.absent
+strides_of (d ∷ ds) [] = none
+strides_of ds (z ∷ zs) = each (S.Strides.given true) (listed dimension_of (z ∷ zs))
 
 -- ── a record's lists, and the parts of its form ──
 
-abbrev pub shape-in : Record → List ℤ
-shape-in r = take r.shape_len r.shape
+abbrev pub shape_in : Record → List ℤ
+shape_in r = take r.shape_len r.shape
 
-abbrev pub strides-in : Record → List ℤ
-strides-in r = take r.strides_len r.strides
+abbrev pub strides_in : Record → List ℤ
+strides_in r = take r.strides_len r.strides
 
-abbrev pub tile-in : Record → List ℤ
-tile-in r = take r.tile_len r.tile
+abbrev pub tile_in : Record → List ℤ
+tile_in r = take r.tile_len r.tile
 
-abbrev pub map-in : Record → List ℤ
-map-in r = take r.map_len r.map
+abbrev pub map_in : Record → List ℤ
+map_in r = take r.map_len r.map
 
-abbrev pub traversal-in : Record → List ℤ
-traversal-in r = take r.traversal_len r.traversal
+abbrev pub traversal_in : Record → List ℤ
+traversal_in r = take r.traversal_len r.traversal
 
 -- `!cuda_tile.` on a tile's pointer, as on every outer name
-abbrev pub pointer-of : Record → Pointer
-pointer-of r = record { front = true; name = first r.element; marked = r.attribute }
+abbrev pub pointer_of : Record → Pointer
+pointer_of r = record { front = true; name = first r.element; marked = r.attribute }
 
-abbrev pub tensor-of : Scalar → Bool → List ℤ → List ℤ → Option Tensor
-tensor-of e m ds zs = each (λ s. record { shape = map dimension-of ds; name = first e; strides = s; marked = m }) (strides-of ds zs)
+abbrev pub tensor_of : Scalar → Bool → List ℤ → List ℤ → Option Tensor
+tensor_of e m ds zs = each (λ s. record { shape = map dimension_of ds; name = first e; strides = s; marked = m }) (strides_of ds zs)
 
 -- none on the inner tensor view; one space after commas between clauses
-abbrev pub view-of : Padding → List ℤ → Option Tensor → Option View
-view-of p ts o =
-    by-x ts >>= λ e.
+abbrev pub view_of : Padding → List ℤ → Option Tensor → Option View
+view_of p ts o =
+    x_joined ts >>= λ e.
     o >>= λ t.
-    some (record { front = true; tile = e; space = true; padding = pads-of p; intro = S.bare; tensor = t; space' = true })
+    some (record { front = true; tile = e; space = true; padding = pads_of p; intro = S.bare; tensor = t; space' = true })
 
-abbrev pub tensor-in : Record → Option Tensor
-tensor-in r = tensor-of r.element r.attribute (shape-in r) (strides-in r)
+abbrev pub tensor_in : Record → Option Tensor
+tensor_in r = tensor_of r.element r.attribute (shape_in r) (strides_in r)
 
 abbrev pub view_in : Record → Option View
-view_in r = view-of r.padding (tile-in r) (tensor-in r)
+view_in r = view_of r.padding (tile_in r) (tensor_in r)
 
 -- ── the form whose text is written; an attribute on a scalar, scalar tile or token has none ──
 
-abbrev pub form-as : Kind → Record → Option Form
-form-as K.Scalar r = unless r.attribute (S.scalar (first r.element))
-form-as K.Pointer r = some (S.ptr (pointer-of r))
-form-as K.Tile r =
-    if r.pointer then some (S.tile true (map dimension-of (shape-in r)) (S.pointer (pointer-of r)))
-    else unless r.attribute (S.tile true (map dimension-of (shape-in r)) (S.plain (first r.element)))
-form-as K.TensorView r = each (S.tensor true) (tensor-in r)
-form-as K.Partition r = view_in r >>= λ v. each (S.partition v) (listed (λ z. z) (map-in r))
-form-as K.GatherScatter r = each (λ v. S.gather v r.sparse) (view_in r)
-form-as K.Strided r =
+abbrev pub form_as : Kind → Record → Option Form
+form_as K.Scalar r = unless r.attribute (S.scalar (first r.element))
+form_as K.Pointer r = some (S.ptr (pointer_of r))
+form_as K.Tile r =
+    if r.pointer then some (S.tile true (map dimension_of (shape_in r)) (S.pointer (pointer_of r)))
+    else unless r.attribute (S.tile true (map dimension_of (shape_in r)) (S.plain (first r.element)))
+form_as K.TensorView r = each (S.tensor true) (tensor_in r)
+form_as K.Partition r = view_in r >>= λ v. each (S.partition v) (listed (λ z. z) (map_in r))
+form_as K.GatherScatter r = each (λ v. S.gather v r.sparse) (view_in r)
+form_as K.Strided r =
     view_in r >>= λ v.
-    listed (λ z. z) (traversal-in r) >>= λ t.
-    each (S.strided v t true) (listed (λ z. z) (map-in r))
-form-as K.Token r = unless r.attribute (S.token true)
+    listed (λ z. z) (traversal_in r) >>= λ t.
+    each (S.strided v t true) (listed (λ z. z) (map_in r))
+form_as K.Token r = unless r.attribute (S.token true)
 
 abbrev pub form : Record → Option Form
-form r = form-as r.kind r
+form r = form_as r.kind r
 
 unfoldable pub written : Record → Option Text
 written r = each spell (form r)

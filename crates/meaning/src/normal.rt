@@ -2,7 +2,7 @@
 ghost use Rattle.std.specs.Prelude.{◌≡◌};
 ghost use Rattle.lexis.specs.Text.{if◌then◌else◌};
 ghost use Rattle.meaning.specs.Found.{flat, token};
-ghost use Rattle.meaning.specs.Normal.{is_zero, is-i1, is-absent, row, uses, clear, lists-clear, rest-blank, normal};
+ghost use Rattle.meaning.specs.Normal.{is_zero, is_i1, is_absent, row, uses, clear, lists_clear, rest_blank, normal};
 
 use crate::{CAP, Kind, Padding, Record};
 use scalars::Scalar;
@@ -56,7 +56,7 @@ pub fn is_normal(r: Record) -> bool
 
 // Each list is within its limit, with zeros past its length.
 fn lists_clear(u: Uses, r: Record) -> bool
-    ensures { result ≡ lists-clear 8 u r }
+    ensures { result ≡ lists_clear 8 u r }
 {
     let shape = r.shape;
     let strides = r.strides;
@@ -73,7 +73,7 @@ fn lists_clear(u: Uses, r: Record) -> bool
 
 // What is no list, and isn't used, is blank: I1, false, zero, no padding.
 fn rest_blank(u: Uses, r: Record) -> bool
-    ensures { result ≡ rest-blank u r }
+    ensures { result ≡ rest_blank u r }
 {
     let element = r.element;
     let padding = r.padding;
@@ -142,13 +142,13 @@ fn is_zero32(z: i32) -> bool
 
 // I1 alone has one bit.
 fn is_i1(e: Scalar) -> bool
-    ensures { result ≡ is-i1 e }
+    ensures { result ≡ is_i1 e }
 {
     e.bits() == 1
 }
 
 fn is_absent(p: Padding) -> bool
-    ensures { result ≡ is-absent p }
+    ensures { result ≡ is_absent p }
 {
     match p {
         Padding::Absent => true,

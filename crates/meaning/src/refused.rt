@@ -2,14 +2,14 @@
 ghost use Rattle.std.specs.Prelude.{◌≡◌};
 ghost use Rattle.lexis.specs.Text.{spot};
 ghost use Rattle.meaning.specs.Found.{unnoted};
-ghost use Rattle.meaning.specs.Ordinary.{high-from, refused};
+ghost use Rattle.meaning.specs.Ordinary.{high_from, refused};
 
 use crate::{Note, Reading, Refusal, blank};
 use lexis::Found;
 
 // The place of the first byte of 128 or more.
 pub fn first_high(text: &[u8]) -> Found
-    ensures { spot result ≡ high-from 0 text.now }
+    ensures { spot result ≡ high_from 0 text.now }
 {
     let i = lexis::seek_outside(text, 0, 127);
     if i < text.len() {

@@ -15,57 +15,57 @@ use Rattle.meaning.specs.declared.Padding.TheVariants.{Absent, Zero, NegZero, Na
 use Rattle.meaning.specs.declared.Reading.{Reading}
 use Rattle.meaning.specs.declared.Record.{Record}
 use Rattle.numbers.specs.declared.TypetextRecord.{TypetextRecord}
-use Rattle.numbers.specs.Numbers.{kind-number, scalar-number, padding-number, flag-number, nth, kinds, scalars, paddings, flags, kind-of, scalar-of, padding-of, flag-of, in-numbers, record-numbers, of-numbers}
+use Rattle.numbers.specs.Numbers.{kind_number, scalar_number, padding_number, flag_number, nth, kinds, scalars, paddings, flags, kind_of, scalar_of, padding_of, flag_of, in_numbers, record_numbers, of_numbers}
 use Rattle.numbers.proofs.Records.{five, built}
 
-kind-back : (k : Kind) → kind-of (kind-number k) ≡ some k
-kind-back K.Scalar = refl
-kind-back K.Pointer = refl
-kind-back K.Tile = refl
-kind-back K.TensorView = refl
-kind-back K.Partition = refl
-kind-back K.GatherScatter = refl
-kind-back K.Strided = refl
-kind-back K.Token = refl
+kind_back : (k : Kind) → kind_of (kind_number k) ≡ some k
+kind_back K.Scalar = refl
+kind_back K.Pointer = refl
+kind_back K.Tile = refl
+kind_back K.TensorView = refl
+kind_back K.Partition = refl
+kind_back K.GatherScatter = refl
+kind_back K.Strided = refl
+kind_back K.Token = refl
 
-scalar-back : (s : Scalar) → scalar-of (scalar-number s) ≡ some s
-scalar-back I1 = refl
-scalar-back I4 = refl
-scalar-back I8 = refl
-scalar-back I16 = refl
-scalar-back I32 = refl
-scalar-back I64 = refl
-scalar-back F16 = refl
-scalar-back BF16 = refl
-scalar-back F32 = refl
-scalar-back TF32 = refl
-scalar-back F64 = refl
-scalar-back F8E4M3FN = refl
-scalar-back F8E5M2 = refl
-scalar-back F8E8M0FNU = refl
-scalar-back F4E2M1FN = refl
-scalar-back F8E5M3FNU = refl
+scalar_back : (s : Scalar) → scalar_of (scalar_number s) ≡ some s
+scalar_back I1 = refl
+scalar_back I4 = refl
+scalar_back I8 = refl
+scalar_back I16 = refl
+scalar_back I32 = refl
+scalar_back I64 = refl
+scalar_back F16 = refl
+scalar_back BF16 = refl
+scalar_back F32 = refl
+scalar_back TF32 = refl
+scalar_back F64 = refl
+scalar_back F8E4M3FN = refl
+scalar_back F8E5M2 = refl
+scalar_back F8E8M0FNU = refl
+scalar_back F4E2M1FN = refl
+scalar_back F8E5M3FNU = refl
 
-padding-back : (p : Padding) → padding-of (padding-number p) ≡ some p
-padding-back Absent = refl
-padding-back Zero = refl
-padding-back NegZero = refl
-padding-back Nan = refl
-padding-back PosInf = refl
-padding-back NegInf = refl
+padding_back : (p : Padding) → padding_of (padding_number p) ≡ some p
+padding_back Absent = refl
+padding_back Zero = refl
+padding_back NegZero = refl
+padding_back Nan = refl
+padding_back PosInf = refl
+padding_back NegInf = refl
 
-flag-back : (b : Bool) → flag-of (flag-number b) ≡ some b
-flag-back false = refl
-flag-back true = refl
+flag_back : (b : Bool) → flag_of (flag_number b) ≡ some b
+flag_back false = refl
+flag_back true = refl
 
-pub record-back : (r : Record) → of-numbers (record-numbers r) ≡ some r
-unfolding of-numbers record-numbers
-record-back r = rw (kind-back r.kind, scalar-back r.element, padding-back r.padding, flag-back r.pointer, flag-back r.attribute)
+pub record_back : (r : Record) → of_numbers (record_numbers r) ≡ some r
+unfolding of_numbers record_numbers
+record_back r = rw (kind_back r.kind, scalar_back r.element, padding_back r.padding, flag_back r.pointer, flag_back r.attribute)
 
 -- what a reader answered
-pub reading-back : (r : Reading) → of-numbers (in-numbers r).value ≡ some r.value
-unfolding in-numbers
-reading-back r = record-back r.value
+pub reading_back : (r : Reading) → of_numbers (in_numbers r).value ≡ some r.value
+unfolding in_numbers
+reading_back r = record_back r.value
 
 -- ── and back: each case's number is its place ──
 
@@ -95,18 +95,18 @@ from_zero f xs n h =
 
 abbrev Only : TypetextRecord → Option Record → Type 0
 Only n none = Unit {0}
-Only n (some r) = record-numbers r ≡ n
+Only n (some r) = record_numbers r ≡ n
 
-only-five : (n : TypetextRecord) (k : Option Kind) (e : Option Scalar) (p : Option Padding) (f m : Option Bool)
-    → Numbered kind-number n.kind k → Numbered scalar-number n.element e → Numbered padding-number n.padding p → Numbered flag-number n.pointer f → Numbered flag-number n.attribute m
+only_five : (n : TypetextRecord) (k : Option Kind) (e : Option Scalar) (p : Option Padding) (f m : Option Bool)
+    → Numbered kind_number n.kind k → Numbered scalar_number n.element e → Numbered padding_number n.padding p → Numbered flag_number n.pointer f → Numbered flag_number n.attribute m
     → Only n (five (built n) k e p f m)
-unfolding record-numbers
-only-five n none e p f m a b c d g = tt
-only-five n (some k) none p f m a b c d g = tt
-only-five n (some k) (some e) none f m a b c d g = tt
-only-five n (some k) (some e) (some p) none m a b c d g = tt
-only-five n (some k) (some e) (some p) (some f) none a b c d g = tt
-only-five n (some k) (some e) (some p) (some f) (some m) a b c d g = λ i. record {
+unfolding record_numbers
+only_five n none e p f m a b c d g = tt
+only_five n (some k) none p f m a b c d g = tt
+only_five n (some k) (some e) none f m a b c d g = tt
+only_five n (some k) (some e) (some p) none m a b c d g = tt
+only_five n (some k) (some e) (some p) (some f) none a b c d g = tt
+only_five n (some k) (some e) (some p) (some f) (some m) a b c d g = λ i. record {
   shape_len = n.shape_len;
   strides_len = n.strides_len;
   tile_len = n.tile_len;
@@ -125,12 +125,12 @@ only-five n (some k) (some e) (some p) (some f) (some m) a b c d g = λ i. recor
   attribute = g i;
 }
 
-pub record-only : (n : TypetextRecord) → Only n (of-numbers n)
-unfolding of-numbers
-record-only n =
-    only-five n (kind-of n.kind) (scalar-of n.element) (padding-of n.padding) (flag-of n.pointer) (flag-of n.attribute)
-    (from_zero kind-number kinds n.kind tt)
-    (from_zero scalar-number scalars n.element tt)
-    (from_zero padding-number paddings n.padding tt)
-    (from_zero flag-number flags n.pointer tt)
-    (from_zero flag-number flags n.attribute tt)
+pub record_only : (n : TypetextRecord) → Only n (of_numbers n)
+unfolding of_numbers
+record_only n =
+    only_five n (kind_of n.kind) (scalar_of n.element) (padding_of n.padding) (flag_of n.pointer) (flag_of n.attribute)
+    (from_zero kind_number kinds n.kind tt)
+    (from_zero scalar_number scalars n.element tt)
+    (from_zero padding_number paddings n.padding tt)
+    (from_zero flag_number flags n.pointer tt)
+    (from_zero flag_number flags n.attribute tt)

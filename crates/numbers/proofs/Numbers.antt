@@ -10,7 +10,7 @@ use lib.Dec.{eqb, ltb, leb-suc-suc}
 use lib.ListN.{length}
 use borrow.Author.Tests.{eqb-true, eqb-false, lt-ltb, le-ltb}
 use mir.Val.{bool_byte}
-use Rattle.numbers.specs.Numbers.{flag-number, nth, given, Value}
+use Rattle.numbers.specs.Numbers.{flag_number, nth, given, Value}
 
 module _ {A : Type 0} where
   pub beyond : (xs : List A) (n : ℕ) → length xs ≤ n → nth xs n ≡ none
@@ -47,6 +47,6 @@ passed n (suc k) (h, q) =
     omega (arith, i, d)
 
 -- a flag's byte, as a cast makes it, is its number
-pub flag-byte : (b : Bool) → bool_byte b ≡ flag-number b
-flag-byte true = refl
-flag-byte false = refl
+pub flag_byte : (b : Bool) → bool_byte b ≡ flag_number b
+flag_byte true = refl
+flag_byte false = refl

@@ -11,7 +11,7 @@ use Rattle.meaning.specs.declared.Record.{Record}
 use Rattle.meaning.specs.Found.{flat, token}
 use Rattle.meaning.specs.Written.{◌>>=◌}
 use Rattle.numbers.specs.declared.TypetextRecord.{TypetextRecord}
-use Rattle.numbers.specs.Numbers.{kinds, scalars, paddings, flags, kind-of, scalar-of, padding-of, flag-of, of-numbers, sent, given, Value}
+use Rattle.numbers.specs.Numbers.{kinds, scalars, paddings, flags, kind_of, scalar_of, padding_of, flag_of, of_numbers, sent, given, Value}
 use Rattle.numbers.proofs.Numbers.{within}
 
 -- five answers together
@@ -21,21 +21,21 @@ Five = Kind → Scalar → Padding → Bool → Bool → Record
 abbrev pub five : Five → Option Kind → Option Scalar → Option Padding → Option Bool → Option Bool → Option Record
 five F k e p f m = k >>= λ k. e >>= λ e. p >>= λ p. f >>= λ f. m >>= λ m. some (F k e p f m)
 
-five-given : (F : Five) (k : Option Kind) (e : Option Scalar) (p : Option Padding) (f m : Option Bool) → given k && given e && given p && given f && given m ≡ given (five F k e p f m)
-five-given F none e p f m = refl
-five-given F (some k) none p f m = refl
-five-given F (some k) (some e) none f m = refl
-five-given F (some k) (some e) (some p) none m = refl
-five-given F (some k) (some e) (some p) (some f) none = refl
-five-given F (some k) (some e) (some p) (some f) (some m) = refl
+five_given : (F : Five) (k : Option Kind) (e : Option Scalar) (p : Option Padding) (f m : Option Bool) → given k && given e && given p && given f && given m ≡ given (five F k e p f m)
+five_given F none e p f m = refl
+five_given F (some k) none p f m = refl
+five_given F (some k) (some e) none f m = refl
+five_given F (some k) (some e) (some p) none m = refl
+five_given F (some k) (some e) (some p) (some f) none = refl
+five_given F (some k) (some e) (some p) (some f) (some m) = refl
 
-five-value : (F : Five) (k : Option Kind) (e : Option Scalar) (p : Option Padding) (f m : Option Bool) (k' : Kind) (e' : Scalar) (p' : Padding) (f' m' : Bool) → Value k k' → Value e e' → Value p p' → Value f f' → Value m m' → Value (five F k e p f m) (F k' e' p' f' m')
-five-value F none e p f m k' e' p' f' m' a b c d g = tt
-five-value F (some k) none p f m k' e' p' f' m' a b c d g = tt
-five-value F (some k) (some e) none f m k' e' p' f' m' a b c d g = tt
-five-value F (some k) (some e) (some p) none m k' e' p' f' m' a b c d g = tt
-five-value F (some k) (some e) (some p) (some f) none k' e' p' f' m' a b c d g = tt
-five-value F (some k) (some e) (some p) (some f) (some m) k' e' p' f' m' a b c d g = λ i. F (a i) (b i) (c i) (d i) (g i)
+five_value : (F : Five) (k : Option Kind) (e : Option Scalar) (p : Option Padding) (f m : Option Bool) (k' : Kind) (e' : Scalar) (p' : Padding) (f' m' : Bool) → Value k k' → Value e e' → Value p p' → Value f f' → Value m m' → Value (five F k e p f m) (F k' e' p' f' m')
+five_value F none e p f m k' e' p' f' m' a b c d g = tt
+five_value F (some k) none p f m k' e' p' f' m' a b c d g = tt
+five_value F (some k) (some e) none f m k' e' p' f' m' a b c d g = tt
+five_value F (some k) (some e) (some p) none m k' e' p' f' m' a b c d g = tt
+five_value F (some k) (some e) (some p) (some f) none k' e' p' f' m' a b c d g = tt
+five_value F (some k) (some e) (some p) (some f) (some m) k' e' p' f' m' a b c d g = λ i. F (a i) (b i) (c i) (d i) (g i)
 
 -- the record of five cases and what else is sent
 abbrev pub built : TypetextRecord → Five
@@ -58,20 +58,20 @@ built n k e p f m = record {
   padding = p;
 }
 
-pub known_is : (n : TypetextRecord) → ltb n.kind 8 && ltb n.element 16 && ltb n.padding 6 && ltb n.pointer 2 && ltb n.attribute 2 ≡ given (of-numbers n)
-unfolding of-numbers
+pub known_is : (n : TypetextRecord) → ltb n.kind 8 && ltb n.element 16 && ltb n.padding 6 && ltb n.pointer 2 && ltb n.attribute 2 ≡ given (of_numbers n)
+unfolding of_numbers
 known_is n =
     sym (λ i. within kinds n.kind i && within scalars n.element i && within paddings n.padding i && within flags n.pointer i && within flags n.attribute i)
-    ∙ five-given (built n) (kind-of n.kind) (scalar-of n.element) (padding-of n.padding) (flag-of n.pointer) (flag-of n.attribute)
+    ∙ five_given (built n) (kind_of n.kind) (scalar_of n.element) (padding_of n.padding) (flag_of n.pointer) (flag_of n.attribute)
 
-pub flag-value : (n : ℕ) → Value (flag-of n) (eqb n 1)
-flag-value zero = refl
-flag-value (suc zero) = refl
-flag-value (suc (suc n)) = tt
+pub flag_value : (n : ℕ) → Value (flag_of n) (eqb n 1)
+flag_value zero = refl
+flag_value (suc zero) = refl
+flag_value (suc (suc n)) = tt
 
-pub record-value : (n : TypetextRecord) (k : Kind) (e : Scalar) (p : Padding) (f m : Bool) → Value (kind-of n.kind) k → Value (scalar-of n.element) e → Value (padding-of n.padding) p → Value (flag-of n.pointer) f → Value (flag-of n.attribute) m → Value (of-numbers n) (built n k e p f m)
-unfolding of-numbers
-record-value n = five-value (built n) (kind-of n.kind) (scalar-of n.element) (padding-of n.padding) (flag-of n.pointer) (flag-of n.attribute)
+pub record_value : (n : TypetextRecord) (k : Kind) (e : Scalar) (p : Padding) (f m : Bool) → Value (kind_of n.kind) k → Value (scalar_of n.element) e → Value (padding_of n.padding) p → Value (flag_of n.pointer) f → Value (flag_of n.attribute) m → Value (of_numbers n) (built n k e p f m)
+unfolding of_numbers
+record_value n = five_value (built n) (kind_of n.kind) (scalar_of n.element) (padding_of n.padding) (flag_of n.pointer) (flag_of n.attribute)
 
 -- ── the answer ──
 
@@ -79,6 +79,6 @@ pub no_record : (o : Option Record) (r : Record) → given o ≡ false → r ≡
 no_record none r h e = ap (λ (v : Record). record { known = false; value = v }) e
 no_record (some a) r h e = absurd (true≢false h)
 
-pub the-record : (o : Option Record) (r : Record) → given o ≡ true → Value o r → record { known = true; value = r } ≡ sent o
-the-record none r h v = absurd (false≢true h)
-the-record (some a) r h v = ap (λ (v : Record). record { known = true; value = v }) v
+pub the_record : (o : Option Record) (r : Record) → given o ≡ true → Value o r → record { known = true; value = r } ≡ sent o
+the_record none r h v = absurd (false≢true h)
+the_record (some a) r h v = ap (λ (v : Record). record { known = true; value = v }) v

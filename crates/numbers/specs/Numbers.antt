@@ -20,49 +20,49 @@ use Rattle.numbers.specs.declared.sent.Sent.{Sent}
 
 -- ── to numbers ──
 
-abbrev pub kind-number : Kind → ℕ
-kind-number K.Scalar = 0
-kind-number K.Pointer = 1
-kind-number K.Tile = 2
-kind-number K.TensorView = 3
-kind-number K.Partition = 4
-kind-number K.GatherScatter = 5
-kind-number K.Strided = 6
-kind-number K.Token = 7
+abbrev pub kind_number : Kind → ℕ
+kind_number K.Scalar = 0
+kind_number K.Pointer = 1
+kind_number K.Tile = 2
+kind_number K.TensorView = 3
+kind_number K.Partition = 4
+kind_number K.GatherScatter = 5
+kind_number K.Strided = 6
+kind_number K.Token = 7
 
-abbrev pub scalar-number : Scalar → ℕ
-scalar-number I1 = 0
-scalar-number I4 = 1
-scalar-number I8 = 2
-scalar-number I16 = 3
-scalar-number I32 = 4
-scalar-number I64 = 5
-scalar-number F16 = 6
-scalar-number BF16 = 7
-scalar-number F32 = 8
-scalar-number TF32 = 9
-scalar-number F64 = 10
-scalar-number F8E4M3FN = 11
-scalar-number F8E5M2 = 12
-scalar-number F8E8M0FNU = 13
-scalar-number F4E2M1FN = 14
-scalar-number F8E5M3FNU = 15
+abbrev pub scalar_number : Scalar → ℕ
+scalar_number I1 = 0
+scalar_number I4 = 1
+scalar_number I8 = 2
+scalar_number I16 = 3
+scalar_number I32 = 4
+scalar_number I64 = 5
+scalar_number F16 = 6
+scalar_number BF16 = 7
+scalar_number F32 = 8
+scalar_number TF32 = 9
+scalar_number F64 = 10
+scalar_number F8E4M3FN = 11
+scalar_number F8E5M2 = 12
+scalar_number F8E8M0FNU = 13
+scalar_number F4E2M1FN = 14
+scalar_number F8E5M3FNU = 15
 
 -- 0 for none, else one more than the source's number
-abbrev pub padding-number : Padding → ℕ
-padding-number Absent = 0
-padding-number Zero = 1
-padding-number NegZero = 2
-padding-number Nan = 3
-padding-number PosInf = 4
-padding-number NegInf = 5
+abbrev pub padding_number : Padding → ℕ
+padding_number Absent = 0
+padding_number Zero = 1
+padding_number NegZero = 2
+padding_number Nan = 3
+padding_number PosInf = 4
+padding_number NegInf = 5
 
-abbrev pub flag-number : Bool → ℕ
-flag-number false = 0
-flag-number true = 1
+abbrev pub flag_number : Bool → ℕ
+flag_number false = 0
+flag_number true = 1
 
-unfoldable pub record-numbers : Record → TypetextRecord
-record-numbers r = record {
+unfoldable pub record_numbers : Record → TypetextRecord
+record_numbers r = record {
   shape_len = r.shape_len;
   strides_len = r.strides_len;
   tile_len = r.tile_len;
@@ -74,21 +74,21 @@ record-numbers r = record {
   map = r.map;
   traversal = r.traversal;
   sparse = r.sparse;
-  kind = kind-number r.kind;
-  element = scalar-number r.element;
-  padding = padding-number r.padding;
-  pointer = flag-number r.pointer;
-  attribute = flag-number r.attribute;
+  kind = kind_number r.kind;
+  element = scalar_number r.element;
+  padding = padding_number r.padding;
+  pointer = flag_number r.pointer;
+  attribute = flag_number r.attribute;
 }
 
-abbrev pub note-numbers : Note → TypetextNote
-note-numbers n = record { a = n.a; b = n.b; c = n.c; d = n.d }
+abbrev pub note_numbers : Note → TypetextNote
+note_numbers n = record { a = n.a; b = n.b; c = n.c; d = n.d }
 
-unfoldable pub in-numbers : Reading → TypetextReading
-in-numbers r = record {
-  value = record-numbers r.value;
+unfoldable pub in_numbers : Reading → TypetextReading
+in_numbers r = record {
+  value = record_numbers r.value;
   place = r.place;
-  note = note-numbers r.note;
+  note = note_numbers r.note;
   refusal = number r.refusal;
 }
 
@@ -112,26 +112,26 @@ paddings = Absent ∷ Zero ∷ NegZero ∷ Nan ∷ PosInf ∷ NegInf ∷ []
 abbrev pub flags : List Bool
 flags = false ∷ true ∷ []
 
-abbrev pub kind-of : ℕ → Option Kind
-kind-of n = nth kinds n
+abbrev pub kind_of : ℕ → Option Kind
+kind_of n = nth kinds n
 
-abbrev pub scalar-of : ℕ → Option Scalar
-scalar-of n = nth scalars n
+abbrev pub scalar_of : ℕ → Option Scalar
+scalar_of n = nth scalars n
 
-abbrev pub padding-of : ℕ → Option Padding
-padding-of n = nth paddings n
+abbrev pub padding_of : ℕ → Option Padding
+padding_of n = nth paddings n
 
-abbrev pub flag-of : ℕ → Option Bool
-flag-of n = nth flags n
+abbrev pub flag_of : ℕ → Option Bool
+flag_of n = nth flags n
 
 -- the record with these numbers, if there is one
-unfoldable pub of-numbers : TypetextRecord → Option Record
-of-numbers n =
-    kind-of n.kind >>= λ kind.
-    scalar-of n.element >>= λ element.
-    padding-of n.padding >>= λ padding.
-    flag-of n.pointer >>= λ pointer.
-    flag-of n.attribute >>= λ attribute.
+unfoldable pub of_numbers : TypetextRecord → Option Record
+of_numbers n =
+    kind_of n.kind >>= λ kind.
+    scalar_of n.element >>= λ element.
+    padding_of n.padding >>= λ padding.
+    flag_of n.pointer >>= λ pointer.
+    flag_of n.attribute >>= λ attribute.
     some (record {
       kind = kind;
       element = element;

@@ -3,7 +3,7 @@
 mod sent;
 
 ghost use Rattle.std.specs.Prelude.{◌≡◌};
-ghost use Rattle.numbers.specs.Numbers.{kind-number, scalar-number, padding-number, flag-number, record-numbers, note-numbers, in-numbers};
+ghost use Rattle.numbers.specs.Numbers.{kind_number, scalar_number, padding_number, flag_number, record_numbers, note_numbers, in_numbers};
 
 use meaning::{CAP, Kind, Note, Padding, Reading, Record};
 use scalars::Scalar;
@@ -52,7 +52,7 @@ pub struct TypetextReading {
 }
 
 fn kind_number(k: Kind) -> u8
-    ensures { result ≡ kind-number k }
+    ensures { result ≡ kind_number k }
 {
     match k {
         Kind::Scalar => 0,
@@ -67,7 +67,7 @@ fn kind_number(k: Kind) -> u8
 }
 
 fn scalar_number(s: Scalar) -> u8
-    ensures { result ≡ scalar-number s }
+    ensures { result ≡ scalar_number s }
 {
     match s {
         Scalar::I1 => 0,
@@ -90,7 +90,7 @@ fn scalar_number(s: Scalar) -> u8
 }
 
 fn padding_number(p: Padding) -> u8
-    ensures { result ≡ padding-number p }
+    ensures { result ≡ padding_number p }
 {
     match p {
         Padding::Absent => 0,
@@ -103,13 +103,13 @@ fn padding_number(p: Padding) -> u8
 }
 
 fn flag_number(b: bool) -> u8
-    ensures { result ≡ flag-number b }
+    ensures { result ≡ flag_number b }
 {
     b as u8
 }
 
 fn record_numbers(v: Record) -> TypetextRecord
-    ensures { result ≡ record-numbers v }
+    ensures { result ≡ record_numbers v }
 {
     let kind = v.kind;
     let element = v.element;
@@ -140,7 +140,7 @@ fn record_numbers(v: Record) -> TypetextRecord
 }
 
 fn note_numbers(n: Note) -> TypetextNote
-    ensures { result ≡ note-numbers n }
+    ensures { result ≡ note_numbers n }
 {
     TypetextNote {
         a: n.a,
@@ -151,7 +151,7 @@ fn note_numbers(n: Note) -> TypetextNote
 }
 
 pub fn in_numbers(r: Reading) -> TypetextReading
-    ensures { result ≡ in-numbers r }
+    ensures { result ≡ in_numbers r }
 {
     let v = r.value;
     let note = r.note;

@@ -1,6 +1,6 @@
 // Records from numbers: what a caller sends may be no record's.
 ghost use Rattle.std.specs.Prelude.{◌≡◌};
-ghost use Rattle.numbers.specs.Numbers.{kind-of, scalar-of, padding-of, flag-of, of-numbers, sent, given, Value};
+ghost use Rattle.numbers.specs.Numbers.{kind_of, scalar_of, padding_of, flag_of, of_numbers, sent, given, Value};
 
 use crate::TypetextRecord;
 use meaning::{Kind, Padding, Record};
@@ -14,7 +14,7 @@ pub struct Sent {
 }
 
 fn kind_of(n: u8) -> Kind
-    ensures { Value (kind-of n) result }
+    ensures { Value (kind_of n) result }
 {
     match n {
         0 => Kind::Scalar,
@@ -29,7 +29,7 @@ fn kind_of(n: u8) -> Kind
 }
 
 fn scalar_of(n: u8) -> Scalar
-    ensures { Value (scalar-of n) result }
+    ensures { Value (scalar_of n) result }
 {
     match n {
         0 => Scalar::I1,
@@ -52,7 +52,7 @@ fn scalar_of(n: u8) -> Scalar
 }
 
 fn padding_of(n: u8) -> Padding
-    ensures { Value (padding-of n) result }
+    ensures { Value (padding_of n) result }
 {
     match n {
         0 => Padding::Absent,
@@ -65,21 +65,21 @@ fn padding_of(n: u8) -> Padding
 }
 
 fn flag_of(n: u8) -> bool
-    ensures { Value (flag-of n) result }
+    ensures { Value (flag_of n) result }
 {
     n == 1
 }
 
 // Whether some record has these numbers.
 fn known(n: TypetextRecord) -> bool
-    ensures { result ≡ given (of-numbers n) }
+    ensures { result ≡ given (of_numbers n) }
 {
     (n.kind < 8) & (n.element < 16) & (n.padding < 6) & (n.pointer < 2) & (n.attribute < 2)
 }
 
 // The record with these numbers; any record where there is none.
 fn record_of(n: TypetextRecord) -> Record
-    ensures { Value (of-numbers n) result }
+    ensures { Value (of_numbers n) result }
 {
     let shape = n.shape;
     let strides = n.strides;
@@ -108,7 +108,7 @@ fn record_of(n: TypetextRecord) -> Record
 
 // The record with these numbers, if there is one.
 pub fn of_numbers(n: TypetextRecord) -> Sent
-    ensures { result ≡ sent (of-numbers n) }
+    ensures { result ≡ sent (of_numbers n) }
 {
     if !known(n) {
         return Sent {

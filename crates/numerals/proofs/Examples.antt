@@ -10,16 +10,16 @@ use Rattle.numerals.specs.Numeral.{numeral}
 unread : numeral 64 (49 ∷ 160 ∷ []) ≡ none
 unread = refl
 
-sign-alone : map (numeral 64) (bytes "+" ∷ bytes "-" ∷ [] ∷ bytes "+-1" ∷ bytes " 1" ∷ bytes "1:" ∷ []) ≡ none ∷ none ∷ none ∷ none ∷ none ∷ none ∷ []
-sign-alone = refl
+sign_alone : map (numeral 64) (bytes "+" ∷ bytes "-" ∷ [] ∷ bytes "+-1" ∷ bytes " 1" ∷ bytes "1:" ∷ []) ≡ none ∷ none ∷ none ∷ none ∷ none ∷ none ∷ []
+sign_alone = refl
 
 plain : map (numeral 32) (bytes "+7" ∷ bytes "-0" ∷ bytes "-000000000000000000000007" ∷ []) ≡ some (pos 7) ∷ some (pos 0) ∷ some (negsuc 6) ∷ []
 plain = refl
 
-limits-64 : map (numeral 64) (bytes "9223372036854775807" ∷ bytes "9223372036854775808" ∷ bytes "-9223372036854775808" ∷ bytes "-9223372036854775809" ∷ [])
+limits_64 : map (numeral 64) (bytes "9223372036854775807" ∷ bytes "9223372036854775808" ∷ bytes "-9223372036854775808" ∷ bytes "-9223372036854775809" ∷ [])
     ≡ some (pos 9223372036854775807) ∷ none ∷ some (negsuc 9223372036854775807) ∷ none ∷ []
-limits-64 = refl
+limits_64 = refl
 
-limits-32 : map (numeral 32) (bytes "2147483647" ∷ bytes "2147483648" ∷ bytes "-2147483648" ∷ bytes "-2147483649" ∷ [])
+limits_32 : map (numeral 32) (bytes "2147483647" ∷ bytes "2147483648" ∷ bytes "-2147483648" ∷ bytes "-2147483649" ∷ [])
     ≡ some (pos 2147483647) ∷ none ∷ some (negsuc 2147483647) ∷ none ∷ []
-limits-32 = refl
+limits_32 = refl

@@ -22,8 +22,8 @@ module _ (w : Width) where
   fits (suc m) z h = record { sfits = h }
 
   -- as the code has it
-  pub minus-fits : (n : ℕ) → ¬ (n ≡ 0) → n ≤ 2 ^ hbits w → SFits w (negsuc 0 -ℤ to_z w (n - 1))
-  minus-fits n z h = rw (value n z h) (fits n z h)
+  pub minus_fits : (n : ℕ) → ¬ (n ≡ 0) → n ≤ 2 ^ hbits w → SFits w (negsuc 0 -ℤ to_z w (n - 1))
+  minus_fits n z h = rw (value n z h) (fits n z h)
 
   pub minus_is : (n : ℕ) → ¬ (n ≡ 0) → n ≤ 2 ^ hbits w → to_z w (of_z w (negsuc 0 -ℤ to_z w (n - 1))) ≡ neg_ℤ (pos n)
-  minus_is n z h = to_z-of_z w _ (minus-fits n z h) ∙ value n z h
+  minus_is n z h = to_z-of_z w _ (minus_fits n z h) ∙ value n z h

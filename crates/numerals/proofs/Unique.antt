@@ -13,26 +13,26 @@ use Rattle.numerals.proofs.numeral.parse_i32.Reads as parse-i32
 use Rattle.numerals.proofs.part.part_i64.Reads as part-i64
 use Rattle.numerals.proofs.part.part_i32.Reads as part-i32
 
-said64-one : (f g : Number64) → said64 f ≡ said64 g → f ≡ g
-said64-one (N64.Value n) (N64.Value m) e = let k : n ≡ m = cc in ap N64.Value k
-said64-one (N64.Value n) N64.Unreadable e = let z : ◌≡◌ {A = ℕ} 0 1 = cc in let f : ⊥ = omega arith in absurd f
-said64-one N64.Unreadable (N64.Value m) e = let z : ◌≡◌ {A = ℕ} 0 1 = cc in let f : ⊥ = omega arith in absurd f
-said64-one N64.Unreadable N64.Unreadable e = refl
+said64_one : (f g : Number64) → said64 f ≡ said64 g → f ≡ g
+said64_one (N64.Value n) (N64.Value m) e = let k : n ≡ m = cc in ap N64.Value k
+said64_one (N64.Value n) N64.Unreadable e = let z : ◌≡◌ {A = ℕ} 0 1 = cc in let f : ⊥ = omega arith in absurd f
+said64_one N64.Unreadable (N64.Value m) e = let z : ◌≡◌ {A = ℕ} 0 1 = cc in let f : ⊥ = omega arith in absurd f
+said64_one N64.Unreadable N64.Unreadable e = refl
 
-said32-one : (f g : Number32) → said32 f ≡ said32 g → f ≡ g
-said32-one (N32.Value n) (N32.Value m) e = let k : n ≡ m = cc in ap N32.Value k
-said32-one (N32.Value n) N32.Unreadable e = let z : ◌≡◌ {A = ℕ} 0 1 = cc in let f : ⊥ = omega arith in absurd f
-said32-one N32.Unreadable (N32.Value m) e = let z : ◌≡◌ {A = ℕ} 0 1 = cc in let f : ⊥ = omega arith in absurd f
-said32-one N32.Unreadable N32.Unreadable e = refl
+said32_one : (f g : Number32) → said32 f ≡ said32 g → f ≡ g
+said32_one (N32.Value n) (N32.Value m) e = let k : n ≡ m = cc in ap N32.Value k
+said32_one (N32.Value n) N32.Unreadable e = let z : ◌≡◌ {A = ℕ} 0 1 = cc in let f : ⊥ = omega arith in absurd f
+said32_one N32.Unreadable (N32.Value m) e = let z : ◌≡◌ {A = ℕ} 0 1 = cc in let f : ⊥ = omega arith in absurd f
+said32_one N32.Unreadable N32.Unreadable e = refl
 
-pub parse-i64-one : One parse-i64.Post
-parse-i64-one κs a x y s t p q = said64-one x y (p ∙ sym q)
+pub parse_i64_one : One parse-i64.Post
+parse_i64_one κs a x y s t p q = said64_one x y (p ∙ sym q)
 
-pub parse-i32-one : One parse-i32.Post
-parse-i32-one κs a x y s t p q = said32-one x y (p ∙ sym q)
+pub parse_i32_one : One parse-i32.Post
+parse_i32_one κs a x y s t p q = said32_one x y (p ∙ sym q)
 
-pub part-i64-one : One part-i64.Post
-part-i64-one κs a x y s t p q = let v = said64-one x.value y.value (p.1 ∙ sym q.1) in let n = p.0 ∙ sym q.0 in λ i. record { value = v i; len = n i }
+pub part_i64_one : One part-i64.Post
+part_i64_one κs a x y s t p q = let v = said64_one x.value y.value (p.1 ∙ sym q.1) in let n = p.0 ∙ sym q.0 in λ i. record { value = v i; len = n i }
 
-pub part-i32-one : One part-i32.Post
-part-i32-one κs a x y s t p q = let v = said32-one x.value y.value (p.1 ∙ sym q.1) in let n = p.0 ∙ sym q.0 in λ i. record { value = v i; len = n i }
+pub part_i32_one : One part-i32.Post
+part_i32_one κs a x y s t p q = let v = said32_one x.value y.value (p.1 ∙ sym q.1) in let n = p.0 ∙ sym q.0 in λ i. record { value = v i; len = n i }

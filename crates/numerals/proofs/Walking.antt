@@ -10,15 +10,15 @@ use borrow.Author.Tests.{eqb-true, eqb-false, ltb-true, leb-true, leb-false, ne_
 use lib.Dec.{eqb, leb, ltb}
 use lib.IntN.{pos}
 use lib.ListN.{length, take, drop, get_or, drop_of_length-le, get_or-eq_default}
-use Rattle.lexis.specs.Text.{Text, if◌then◌else◌, until, less-trailing, unless-last, white, trim}
-use Rattle.numerals.specs.Numeral.{digit, number-from, number, at_most, minus, numeral}
+use Rattle.lexis.specs.Text.{Text, if◌then◌else◌, until, less_trailing, unless_last, white, trim}
+use Rattle.numerals.specs.Numeral.{digit, number_from, number, at_most, minus, numeral}
 use Rattle.numerals.specs.Parts.{ink, apart, odd}
 use Rattle.lexis.proofs.Lists.{view}
-use Rattle.lexis.proofs.Seeking.{never, until-step, until_stop, until-here, until-take}
+use Rattle.lexis.proofs.Seeking.{never, until_step, until_stop, until_here, until_take}
 
 -- ── a byte that isn't white stays where a text is trimmed ──
 
-kept : (b : ℕ) (u : Text) → white b ≡ false → unless-last white b u ≡ b ∷ u
+kept : (b : ℕ) (u : Text) → white b ≡ false → unless_last white b u ≡ b ∷ u
 kept b [] e = rw e
 kept b (c ∷ u) e = refl
 
@@ -35,7 +35,7 @@ odd_byte b e = by (white b) (ltb b 48) (ltb 57 b) (ltb-true b 48) (ltb-true 57 b
     by false false true p q e = (refl, ap (λ (z : Bool). leb 48 b && z) (lt-leb b 57 (q refl)) ∙ never (leb 48 b))
     by false false false p q e = absurd (false≢true e)
 
-no_number : (u : Text) → number-from 0 u ≡ none → number u ≡ none
+no_number : (u : Text) → number_from 0 u ≡ none → number u ≡ none
 no_number [] e = refl
 no_number (b ∷ u) e = e
 
@@ -43,9 +43,9 @@ no_number (b ∷ u) e = e
 
 -- no white byte, no digit and no minus passes
 pub record Quiet (p : ℕ → Bool) : Type 0 where
-  pub on-white : (b : ℕ) → white b ≡ true → p b ≡ false
-  pub on-digit : (b : ℕ) → 48 ≤ b → b ≤ 57 → p b ≡ false
-  pub on-minus : p 45 ≡ false
+  pub on_white : (b : ℕ) → white b ≡ true → p b ≡ false
+  pub on_digit : (b : ℕ) → 48 ≤ b → b ≤ 57 → p b ≡ false
+  pub on_minus : p 45 ≡ false
 
 pub white_low : (b : ℕ) → white b ≡ true → b ≤ 32
 white_low b e = by (leb 9 b) (leb b 13) (eqb b 32) (leb-true b 13) (eqb-true b 32) e
@@ -61,9 +61,9 @@ white_low b e = by (leb 9 b) (leb b 13) (eqb b 32) (leb-true b 13) (eqb-true b 3
 pub quiet : (x : ℕ) → apart x ≡ true → Quiet (eqb x)
 quiet x f =
     record {
-      on-white = λ b e. far b (λ k. omega (arith, white_low b e)) (omega (arith, white_low b e));
-      on-digit = λ b l u. far b (λ k. omega arith) (omega arith);
-      on-minus = far 45 (λ k. omega arith) (omega arith);
+      on_white = λ b e. far b (λ k. omega (arith, white_low b e)) (omega (arith, white_low b e));
+      on_digit = λ b l u. far b (λ k. omega arith) (omega arith);
+      on_minus = far 45 (λ k. omega arith) (omega arith);
     }
   where
     far : (b : ℕ) → (b ≡ 44 → ⊥) → b < 58 → eqb x b ≡ false
@@ -78,8 +78,8 @@ quiet x f =
 pub record Running (p : ℕ → Bool) (s : Text) (k i n : ℕ) : Type 0 where
   pub onward : k ≤ i
   pub len : k + length (until p (drop k s)) ≡ i + length (until p (drop i s))
-  pub same : number-from 0 (until p (drop k s)) ≡ number-from n (until p (drop i s))
-  pub trimmed : number-from 0 (less-trailing white (until p (drop k s))) ≡ number-from n (less-trailing white (until p (drop i s)))
+  pub same : number_from 0 (until p (drop k s)) ≡ number_from n (until p (drop i s))
+  pub trimmed : number_from 0 (less_trailing white (until p (drop k s))) ≡ number_from n (less_trailing white (until p (drop i s)))
   pub lead : (i ≡ k → ⊥) → 48 ≤ get_or s k 0
 
 pub begun : (p : ℕ → Bool) (s : Text) (k : ℕ) → Running p s k k 0
@@ -91,9 +91,9 @@ module _ {p : ℕ → Bool} (q : Quiet p) where
   abbrev first : Text → ℕ
   first t = length (until ink t)
 
-  len-behind : (t : Text) → length (until p t) ≡ first t + length (until p (drop (first t) t))
-  len-behind [] = refl
-  len-behind (b ∷ t) = by (white b) (q.on-white b) (len-behind t)
+  len_behind : (t : Text) → length (until p t) ≡ first t + length (until p (drop (first t) t))
+  len_behind [] = refl
+  len_behind (b ∷ t) = by (white b) (q.on_white b) (len_behind t)
     where
       n : Bool → ℕ
       n c = length (if not c then [] else b ∷ until ink t)
@@ -103,9 +103,9 @@ module _ {p : ℕ → Bool} (q : Quiet p) where
       by true g r = rw (g refl) (omega arith)
       by false g r = omega arith
 
-  trim-behind : (t : Text) → trim (until p t) ≡ trim (until p (drop (first t) t))
-  trim-behind [] = refl
-  trim-behind (b ∷ t) = by (white b) refl (q.on-white b) (trim-behind t)
+  trim_behind : (t : Text) → trim (until p t) ≡ trim (until p (drop (first t) t))
+  trim_behind [] = refl
+  trim_behind (b ∷ t) = by (white b) refl (q.on_white b) (trim_behind t)
     where
       n : Bool → ℕ
       n c = length (if not c then [] else b ∷ until ink t)
@@ -127,14 +127,14 @@ module _ {p : ℕ → Bool} (q : Quiet p) where
 
     pub step : {b : ℕ} → b ≡ get_or s i 0 → i < length s → 48 ≤ b → b ≤ 57 → Running p s k (i + 1) (n * 10 + (b - 48))
     step {b} m h l u =
-        let e : until p (drop i s) ≡ b ∷ until p (drop (i + 1) s) = rw (view s i h, sym m, q.on-digit b l u) in
+        let e : until p (drop i s) ≡ b ∷ until p (drop (i + 1) s) = rw (view s i h, sym m, q.on_digit b l u) in
         record {
           onward = omega (arith, g.onward);
           len = g.len ∙ ap (λ (v : Text). i + length v) e ∙ omega arith;
-          same = g.same ∙ ap (number-from n) e ∙ rw (le-leb 48 b l, le-leb b 57 u);
+          same = g.same ∙ ap (number_from n) e ∙ rw (le-leb 48 b l, le-leb b 57 u);
           trimmed =
-              g.trimmed ∙ ap (λ (v : Text). number-from n (less-trailing white v)) e
-              ∙ ap (number-from n) (kept b (less-trailing white (until p (drop (i + 1) s))) (black b (omega arith)))
+              g.trimmed ∙ ap (λ (v : Text). number_from n (less_trailing white v)) e
+              ∙ ap (number_from n) (kept b (less_trailing white (until p (drop (i + 1) s))) (black b (omega arith)))
               ∙ rw (le-leb 48 b l, le-leb b 57 u);
           lead = λ z. led m l;
         }
@@ -143,29 +143,29 @@ module _ {p : ℕ → Bool} (q : Quiet p) where
         → (i ≡ k + length (until p (drop k s))) × (number (until p (drop k s)) ≡ some n)
     ended e m =
         let l : k + length (until p (drop k s)) ≡ i + 0 = g.len ∙ ap (λ (v : Text). i + length v) e in
-        (omega arith, by (until p (drop k s)) (omega (arith, g.onward)) (g.same ∙ ap (number-from n) e))
+        (omega arith, by (until p (drop k s)) (omega (arith, g.onward)) (g.same ∙ ap (number_from n) e))
       where
-        by : (u : Text) → 0 < length u → number-from 0 u ≡ some n → number u ≡ some n
+        by : (u : Text) → 0 < length u → number_from 0 u ≡ some n → number u ≡ some n
         by [] h e = let f : ⊥ = omega arith in absurd f
         by (b ∷ u) h e = e
 
-    pub at-end : length s ≤ i → (i ≡ k → ⊥) → (i ≡ k + length (until p (drop k s))) × (number (until p (drop k s)) ≡ some n)
-    at-end h = ended (rw (drop_of_length-le s h))
+    pub at_end : length s ≤ i → (i ≡ k → ⊥) → (i ≡ k + length (until p (drop k s))) × (number (until p (drop k s)) ≡ some n)
+    at_end h = ended (rw (drop_of_length-le s h))
 
     pub at_next : p (get_or s i 0) ≡ true → (i ≡ k → ⊥) → (i ≡ k + length (until p (drop k s))) × (number (until p (drop k s)) ≡ some n)
-    at_next e = ended (until-here p s i e)
+    at_next e = ended (until_here p s i e)
 
     -- an odd byte next: the part is no number, trimmed
-    pub at-odd : i < length s → p (get_or s i 0) ≡ false → odd (get_or s i 0) ≡ true → (i ≡ k → ⊥) → {e : ℕ} → e ≡ i + length (until p (drop i s))
-        → (e ≡ k + length (until p (drop k s))) × (number (less-trailing white (until p (drop k s))) ≡ none) × (48 ≤ get_or (drop k s) 0 0)
-    at-odd h d o m v =
+    pub at_odd : i < length s → p (get_or s i 0) ≡ false → odd (get_or s i 0) ≡ true → (i ≡ k → ⊥) → {e : ℕ} → e ≡ i + length (until p (drop i s))
+        → (e ≡ k + length (until p (drop k s))) × (number (less_trailing white (until p (drop k s))) ≡ none) × (48 ≤ get_or (drop k s) 0 0)
+    at_odd h d o m v =
         let b = get_or s i 0 in
         let e : until p (drop i s) ≡ b ∷ until p (drop (i + 1) s) = rw (view s i h, d) in
         let c = odd_byte b o in (
           v ∙ sym g.len,
-          no_number (less-trailing white (until p (drop k s)))
-              (g.trimmed ∙ ap (λ (v : Text). number-from n (less-trailing white v)) e
-              ∙ ap (number-from n) (kept b (less-trailing white (until p (drop (i + 1) s))) c.0) ∙ rw c.1),
+          no_number (less_trailing white (until p (drop k s)))
+              (g.trimmed ∙ ap (λ (v : Text). number_from n (less_trailing white v)) e
+              ∙ ap (number_from n) (kept b (less_trailing white (until p (drop (i + 1) s))) c.0) ∙ rw c.1),
           rw (view s k (omega (arith, g.onward))) (g.lead m),
         )
 
@@ -191,13 +191,13 @@ pub absent : {A : Type 0} {n : A} → none ≡ some n → ⊥
 absent e = let z : ◌≡◌ {A = ℕ} 0 1 = cc in omega arith
 
 -- digits have nothing to trim
-tight : (m : ℕ) (u : Text) {n : ℕ} → number-from m u ≡ some n → less-trailing white u ≡ u
+tight : (m : ℕ) (u : Text) {n : ℕ} → number_from m u ≡ some n → less_trailing white u ≡ u
 tight m [] e = refl
 tight m (b ∷ u) {n} e = by (digit b) (is_digit b) (tight (m * 10 + (b - 48)) u) e
   where
-    by : (d : Bool) → (d ≡ true → Digit b) → (number-from (m * 10 + (b - 48)) u ≡ some n → less-trailing white u ≡ u)
-        → if d then number-from (m * 10 + (b - 48)) u else none ≡ some n → less-trailing white (b ∷ u) ≡ b ∷ u
-    by true g r e = ap (unless-last white b) (r e) ∙ kept b u (black b (let h = (g refl).low in omega arith))
+    by : (d : Bool) → (d ≡ true → Digit b) → (number_from (m * 10 + (b - 48)) u ≡ some n → less_trailing white u ≡ u)
+        → if d then number_from (m * 10 + (b - 48)) u else none ≡ some n → less_trailing white (b ∷ u) ≡ b ∷ u
+    by true g r e = ap (unless_last white b) (r e) ∙ kept b u (black b (let h = (g refl).low in omega arith))
     by false g r e = absurd (absent e)
 
 -- a byte that isn't 0 stands inside
@@ -219,8 +219,8 @@ module _ (w : ℕ) where
   plain [] e h = absurd (absent e)
   plain (b ∷ u) {n} e h = by (digit b) (is_digit b) (tight 0 (b ∷ u) e) e
     where
-      by : (d : Bool) → (d ≡ true → Digit b) → less-trailing white (b ∷ u) ≡ b ∷ u
-          → if d then number-from (0 * 10 + (b - 48)) u else none ≡ some n → numeral w (trim (b ∷ u)) ≡ some (pos n)
+      by : (d : Bool) → (d ≡ true → Digit b) → less_trailing white (b ∷ u) ≡ b ∷ u
+          → if d then number_from (0 * 10 + (b - 48)) u else none ≡ some n → numeral w (trim (b ∷ u)) ≡ some (pos n)
       by true g r q =
           let k = (g refl).low in
           rw (black b (omega arith), r, ne_eqb b 45 (λ m. omega arith), ne_eqb b 43 (λ m. omega arith), e, le-leb n (2 ^ (w - 1) - 1) h)
@@ -231,18 +231,18 @@ module _ (w : ℕ) where
   signed (b ∷ u) {n} e h = rw (tight 0 (b ∷ u) e, e, le-leb n (2 ^ (w - 1)) h)
 
   -- by the trimmed part: where its first byte isn't below the digits, and behind a minus
-  bare : (p : ℕ → Bool) (t : Text) → 48 ≤ get_or t 0 0 → numeral w (trim (until p t)) ≡ at_most (2 ^ (w - 1) - 1) pos (number (less-trailing white (until p t)))
+  bare : (p : ℕ → Bool) (t : Text) → 48 ≤ get_or t 0 0 → numeral w (trim (until p t)) ≡ at_most (2 ^ (w - 1) - 1) pos (number (less_trailing white (until p t)))
   bare p [] h = refl
   bare p (b ∷ t) h = by (p b)
     where
-      by : (d : Bool) → numeral w (trim (if d then [] else b ∷ until p t)) ≡ at_most (2 ^ (w - 1) - 1) pos (number (less-trailing white (if d then [] else b ∷ until p t)))
+      by : (d : Bool) → numeral w (trim (if d then [] else b ∷ until p t)) ≡ at_most (2 ^ (w - 1) - 1) pos (number (less_trailing white (if d then [] else b ∷ until p t)))
       by true = refl
       by false =
-          let k = kept b (less-trailing white (until p t)) (black b (omega arith)) in
+          let k = kept b (less_trailing white (until p t)) (black b (omega arith)) in
           rw (black b (omega arith), k, ne_eqb b 45 (λ m. omega arith), ne_eqb b 43 (λ m. omega arith))
 
-  behind-minus : (u : Text) → numeral w (trim (45 ∷ u)) ≡ at_most (2 ^ (w - 1)) minus (number (less-trailing white u))
-  behind-minus u = rw (kept 45 (less-trailing white u) refl)
+  behind_minus : (u : Text) → numeral w (trim (45 ∷ u)) ≡ at_most (2 ^ (w - 1)) minus (number (less_trailing white u))
+  behind_minus u = rw (kept 45 (less_trailing white u) refl)
 
   strange : (p : ℕ → Bool) (b : ℕ) (t : Text) → 57 < b → numeral w (trim (until p (b ∷ t))) ≡ none
   strange p b t h = by (p b)
@@ -250,69 +250,69 @@ module _ (w : ℕ) where
       by : (d : Bool) → numeral w (trim (if d then [] else b ∷ until p t)) ≡ none
       by true = refl
       by false =
-          let k = kept b (less-trailing white (until p t)) (black b (omega arith)) in
+          let k = kept b (less_trailing white (until p t)) (black b (omega arith)) in
           rw (black b (omega arith), k, ne_eqb b 45 (λ m. omega arith), ne_eqb b 43 (λ m. omega arith), le-leb 48 b (omega arith), lt-leb b 57 h)
 
 -- ── the whole part, where white bytes stand before i ──
 
 module _ {p : ℕ → Bool} (q : Quiet p) (s : Text) {i : ℕ} (a : i ≡ length (until ink s)) where
-  white-len : length (until p s) ≡ i + length (until p (drop i s))
-  white-len = len-behind q s ∙ ap (λ (n : ℕ). n + length (until p (drop n s))) (sym a)
+  white_len : length (until p s) ≡ i + length (until p (drop i s))
+  white_len = len_behind q s ∙ ap (λ (n : ℕ). n + length (until p (drop n s))) (sym a)
 
-  pub plus-len : {e : ℕ} → e ≡ i + length (until p (drop i s)) → e ≡ length (until p s)
-  plus-len v = v ∙ sym white-len
+  pub plus_len : {e : ℕ} → e ≡ i + length (until p (drop i s)) → e ≡ length (until p s)
+  plus_len v = v ∙ sym white_len
 
-  pub minus-len : get_or s i 0 ≡ 45 → {e : ℕ} → e ≡ (i + 1) + length (until p (drop (i + 1) s)) → e ≡ length (until p s)
-  minus-len k {e} v = let l = ap length (behind p s i k (omega arith) q.on-minus) in plus-len (let o : e ≡ i + length (until p (drop i s)) = omega arith in o)
+  pub minus_len : get_or s i 0 ≡ 45 → {e : ℕ} → e ≡ (i + 1) + length (until p (drop (i + 1) s)) → e ≡ length (until p s)
+  minus_len k {e} v = let l = ap length (behind p s i k (omega arith) q.on_minus) in plus_len (let o : e ≡ i + length (until p (drop i s)) = omega arith in o)
 
   -- the numeral of the whole part
   module _ (w : ℕ) where
     whole : numeral w (trim (until p s)) ≡ numeral w (trim (until p (drop i s)))
-    whole = ap (numeral w) (trim-behind q s ∙ ap (λ (n : ℕ). trim (until p (drop n s))) (sym a))
+    whole = ap (numeral w) (trim_behind q s ∙ ap (λ (n : ℕ). trim (until p (drop n s))) (sym a))
 
-    signed-whole : get_or s i 0 ≡ 45 → numeral w (trim (until p s)) ≡ numeral w (trim (45 ∷ until p (drop (i + 1) s)))
-    signed-whole k = whole ∙ ap (λ (t : Text). numeral w (trim t)) (behind p s i k (omega arith) q.on-minus)
+    signed_whole : get_or s i 0 ≡ 45 → numeral w (trim (until p s)) ≡ numeral w (trim (45 ∷ until p (drop (i + 1) s)))
+    signed_whole k = whole ∙ ap (λ (t : Text). numeral w (trim t)) (behind p s i k (omega arith) q.on_minus)
 
-    pub no-numeral : i < length s → 57 < get_or s i 0 → none ≡ numeral w (trim (until p s))
-    no-numeral h k =
+    pub no_numeral : i < length s → 57 < get_or s i 0 → none ≡ numeral w (trim (until p s))
+    no_numeral h k =
         sym (whole ∙ ap (λ (t : Text). numeral w (trim (until p t))) (view s i h) ∙ strange w p (get_or s i 0) (drop (i + 1) s) k)
 
-    pub plus-part : {n : ℕ} → number (until p (drop i s)) ≡ some n → n ≤ 2 ^ (w - 1) - 1 → some (pos n) ≡ numeral w (trim (until p s))
-    plus-part e h = sym (whole ∙ plain w (until p (drop i s)) e h)
+    pub plus_part : {n : ℕ} → number (until p (drop i s)) ≡ some n → n ≤ 2 ^ (w - 1) - 1 → some (pos n) ≡ numeral w (trim (until p s))
+    plus_part e h = sym (whole ∙ plain w (until p (drop i s)) e h)
 
-    pub minus-part : {n : ℕ} → get_or s i 0 ≡ 45 → number (until p (drop (i + 1) s)) ≡ some n → n ≤ 2 ^ (w - 1) → some (minus n) ≡ numeral w (trim (until p s))
-    minus-part k e h = sym (signed-whole k ∙ signed w (until p (drop (i + 1) s)) e h)
+    pub minus_part : {n : ℕ} → get_or s i 0 ≡ 45 → number (until p (drop (i + 1) s)) ≡ some n → n ≤ 2 ^ (w - 1) → some (minus n) ≡ numeral w (trim (until p s))
+    minus_part k e h = sym (signed_whole k ∙ signed w (until p (drop (i + 1) s)) e h)
 
-    pub plus-odd : number (less-trailing white (until p (drop i s))) ≡ none → 48 ≤ get_or (drop i s) 0 0 → none ≡ numeral w (trim (until p s))
-    plus-odd e h = sym (whole ∙ bare w p (drop i s) h ∙ ap (at_most (2 ^ (w - 1) - 1) pos) e)
+    pub plus_odd : number (less_trailing white (until p (drop i s))) ≡ none → 48 ≤ get_or (drop i s) 0 0 → none ≡ numeral w (trim (until p s))
+    plus_odd e h = sym (whole ∙ bare w p (drop i s) h ∙ ap (at_most (2 ^ (w - 1) - 1) pos) e)
 
-    pub minus-odd : get_or s i 0 ≡ 45 → number (less-trailing white (until p (drop (i + 1) s))) ≡ none → none ≡ numeral w (trim (until p s))
-    minus-odd k e = sym (signed-whole k ∙ behind-minus w (until p (drop (i + 1) s)) ∙ ap (at_most (2 ^ (w - 1)) minus) e)
+    pub minus_odd : get_or s i 0 ≡ 45 → number (less_trailing white (until p (drop (i + 1) s))) ≡ none → none ≡ numeral w (trim (until p s))
+    minus_odd k e = sym (signed_whole k ∙ behind_minus w (until p (drop (i + 1) s)) ∙ ap (at_most (2 ^ (w - 1)) minus) e)
 
 -- ── a part that is sought first: its k bytes ──
 
 module _ (p : ℕ → Bool) (t : Text) {k : ℕ} (u : k ≡ length (until p t)) where
   taken : take k t ≡ until p t
-  taken = rw (u, until-take p t)
+  taken = rw (u, until_take p t)
 
-  pub until-part : k ≡ length (take k t)
-  until-part = u ∙ ap length (sym taken)
+  pub until_part : k ≡ length (take k t)
+  until_part = u ∙ ap length (sym taken)
 
-  pub sought-part : (w : ℕ) {s : Text} → s ≡ trim (take k t) → numeral w s ≡ numeral w (trim (until p t))
-  sought-part w e = ap (numeral w) (e ∙ ap trim taken)
+  pub sought_part : (w : ℕ) {s : Text} → s ≡ trim (take k t) → numeral w s ≡ numeral w (trim (until p t))
+  sought_part w e = ap (numeral w) (e ∙ ap trim taken)
 
 -- ── how many white bytes stand in front ──
 
 module _ (s : Text) (h : 2 ≤ length s) where
-  pub none-white : white (get_or s 0 0) ≡ false → 0 ≡ length (until ink s)
-  none-white e = sym (ap length (ap (until ink) (view s 0 (omega arith))) ∙ rw e)
+  pub none_white : white (get_or s 0 0) ≡ false → 0 ≡ length (until ink s)
+  none_white e = sym (ap length (ap (until ink) (view s 0 (omega arith))) ∙ rw e)
 
   module _ (e : white (get_or s 0 0) ≡ true) where
     one_more : length (until ink s) ≡ 1 + length (until ink (drop 1 s))
     one_more = ap length (ap (until ink) (view s 0 (omega arith))) ∙ rw e (omega arith)
 
-    pub one-white : white (get_or s 1 0) ≡ false → 1 ≡ length (until ink s)
-    one-white k = sym (one_more ∙ until_stop ink s 1 (omega arith) (ap not k))
+    pub one_white : white (get_or s 1 0) ≡ false → 1 ≡ length (until ink s)
+    one_white k = sym (one_more ∙ until_stop ink s 1 (omega arith) (ap not k))
 
-    pub two-white : white (get_or s 1 0) ≡ true → 2 + length (until ink (drop 2 s)) ≡ length (until ink s)
-    two-white k = sym (one_more ∙ until-step ink s 1 (omega arith) (ap not k))
+    pub two_white : white (get_or s 1 0) ≡ true → 2 + length (until ink (drop 2 s)) ≡ length (until ink s)
+    two_white k = sym (one_more ∙ until_step ink s 1 (omega arith) (ap not k))

@@ -12,14 +12,14 @@ abbrev pub digit : ℕ → Bool
 digit b = leb (code "0") b && leb b (code "9")
 
 -- the number that digits write, after those that wrote n
-abbrev pub number-from : ℕ → Text → Option ℕ
-number-from n [] = some n
-number-from n (b ∷ s) = if digit b then number-from (n * 10 + (b - code "0")) s else none
+abbrev pub number_from : ℕ → Text → Option ℕ
+number_from n [] = some n
+number_from n (b ∷ s) = if digit b then number_from (n * 10 + (b - code "0")) s else none
 
 -- one or more digits
 abbrev pub number : Text → Option ℕ
 number [] = none
-number (b ∷ s) = number-from 0 (b ∷ s)
+number (b ∷ s) = number_from 0 (b ∷ s)
 
 -- a number of at most `limit`, as an integer
 abbrev pub at_most : ℕ → (ℕ → ℤ) → Option ℕ → Option ℤ

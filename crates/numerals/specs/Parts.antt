@@ -2,7 +2,7 @@
 use Rattle.std.specs.Prelude.{ℕ, suc, ◌+◌, ◌≤◌, Bool, ◌&&◌, ◌||◌, not, [], ◌∷◌, ◌≡◌, leb, ltb, eqb, length, get_or}
 use Prim.Native.Char.{code}
 use Rattle.std.proofs.Math.Option.{Option, none, some}
-use Rattle.lexis.specs.Text.{Text, if◌then◌else◌, until, less-trailing, white}
+use Rattle.lexis.specs.Text.{Text, if◌then◌else◌, until, less_trailing, white}
 use Rattle.numerals.specs.Numeral.{number}
 use Rattle.numerals.specs.declared.numeral.Magnitude.{Magnitude}
 use Rattle.numerals.specs.declared.numeral.Magnitude.TheVariants.{Of, NoDigits}
@@ -50,5 +50,5 @@ odd b = not (white b) && (ltb b (code "0") || ltb (code "9") b)
 -- begins at the place k
 abbrev pub Ran : ℕ → Text → ℕ → ℕ → Walked → Type 0
 Ran x t k most (W.Of n e) = (e ≡ k + length (until (eqb x) t)) × (number (until (eqb x) t) ≡ some n) × (n ≤ most)
-Ran x t k most (W.Odd e) = (e ≡ k + length (until (eqb x) t)) × (number (less-trailing white (until (eqb x) t)) ≡ none) × (48 ≤ get_or t 0 0)
+Ran x t k most (W.Odd e) = (e ≡ k + length (until (eqb x) t)) × (number (less_trailing white (until (eqb x) t)) ≡ none) × (48 ≤ get_or t 0 0)
 Ran x t k most W.Other = Unit {0}

@@ -9,11 +9,11 @@ use lib.Dec.{leb}
 use lib.ListN.{length}
 use Rattle.lexis.specs.Text.{Text, if◌then◌else◌}
 use Rattle.meaning.specs.Refusals.{number}
-use Rattle.meaning.specs.Ordinary.{parse, high-from, refused, judged, read-ascii, ordinary}
-use Rattle.meaning.specs.Meant.{Read-ascii, Strictly}
+use Rattle.meaning.specs.Ordinary.{parse, high_from, refused, judged, read_ascii, ordinary}
+use Rattle.meaning.specs.Meant.{ReadAscii, Strictly}
 use Rattle.meaning.specs.declared.Reading.{Reading}
 use Rattle.meaning.specs.declared.Refusal.TheVariants.{TooLong}
-use Rattle.accord.proofs.Demands.{strict-ordinary}
+use Rattle.accord.proofs.Demands.{strict_ordinary}
 
 -- what the port answers
 abbrev pub ported : Text → Reading
@@ -21,19 +21,19 @@ ported s = if leb (length s) 1024 then judged 8 (parse s) else refused 8 TooLong
 
 module _ (s : Text) (r : Reading) (e : Strictly 8 1024 s r) where
   answered : (number r.refusal ≡ 5 → ⊥) → r ≡ ordinary 8 1024 s
-  answered n = sym (strict-ordinary 8 1024 s r e (λ k. n (ap number k)))
+  answered n = sym (strict_ordinary 8 1024 s r e (λ k. n (ap number k)))
 
-  open-still : number r.refusal ≡ 5 → ported s ≡ ordinary 8 1024 s
+  open_still : number r.refusal ≡ 5 → ported s ≡ ordinary 8 1024 s
   unfolding ordinary refused
-  open-still n = by (leb (length s) 1024) e
+  open_still n = by (leb (length s) 1024) e
     where
-      ascii : (o : Option ℕ) → Read-ascii 8 s o r → judged 8 (parse s) ≡ read-ascii 8 s o
+      ascii : (o : Option ℕ) → ReadAscii 8 s o r → judged 8 (parse s) ≡ read_ascii 8 s o
       ascii (some place) h = let z : number r.refusal ≡ 2 = ap (λ (x : Reading). number x.refusal) h in let f : ⊥ = omega arith in absurd f
       ascii none h = refl
 
-      by : (b : Bool) → elim b as (λ _. Type 0) [ true ↦ Read-ascii 8 s (high-from 0 s) r | false ↦ r ≡ refused 8 TooLong 0 ]
-          → (if b then judged 8 (parse s) else refused 8 TooLong 0) ≡ (if b then read-ascii 8 s (high-from 0 s) else refused 8 TooLong 0)
-      by true h = ascii (high-from 0 s) h
+      by : (b : Bool) → elim b as (λ _. Type 0) [ true ↦ ReadAscii 8 s (high_from 0 s) r | false ↦ r ≡ refused 8 TooLong 0 ]
+          → (if b then judged 8 (parse s) else refused 8 TooLong 0) ≡ (if b then read_ascii 8 s (high_from 0 s) else refused 8 TooLong 0)
+      by true h = ascii (high_from 0 s) h
       by false h = refl
 
 -- ── t is all of s ──
@@ -43,4 +43,4 @@ module _ (s t : Text) (q : t ≡ s) (r : Reading) (e : Strictly 8 1024 t r) wher
   settled n = answered t r e n ∙ ap (ordinary 8 1024) q
 
   pub left_open : number r.refusal ≡ 5 → ported t ≡ ordinary 8 1024 s
-  left_open n = open-still t r e n ∙ ap (ordinary 8 1024) q
+  left_open n = open_still t r e n ∙ ap (ordinary 8 1024) q

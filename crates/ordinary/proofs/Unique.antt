@@ -3,5 +3,5 @@ use mathlib.Core.Path.{sym, ◌∙◌}
 use Rattle.lexis.proofs.Unique.{One}
 use Rattle.ordinary.proofs.parse.Reads as parse
 
-pub parse-one : One parse.Post
-parse-one κs a x y s t p q = p ∙ sym q
+pub parse_one : One parse.Post
+parse_one κs a x y s t p q = p ∙ sym q

@@ -51,8 +51,8 @@ module _ {s : Text} {i t n : ℕ} (g : Behind s i t n) where
   pub handed : t < length s → Sight (bytes "tensor_view<") 0 (take (length s - (t + 6)) (drop (t + 6) s)) (i - (t + 6)) n
   handed h = rw (rest s (t + 6)) (g.past h)
 
-  pub handed-in : i < length s → t + 6 ≤ i → i - (t + 6) < length (take (length s - (t + 6)) (drop (t + 6) s))
-  handed-in h k = rw (rest s (t + 6)) (let l = length-drop (t + 6) s in omega arith)
+  pub handed_in : i < length s → t + 6 ≤ i → i - (t + 6) < length (take (length s - (t + 6)) (drop (t + 6) s))
+  handed_in h k = rw (rest s (t + 6)) (let l = length-drop (t + 6) s in omega arith)
 
   pub opens : t < length s → t + 6 ≤ i → {q : ℕ} → Sight (bytes "tensor_view<") 0 (take (length s - (t + 6)) (drop (t + 6) s)) (i - (t + 6) + 1) q → Behind s (i + 1) t q
   opens h k {q} e =
@@ -76,12 +76,12 @@ module _ {s : Text} {i t n : ℕ} (g : Behind s i t n) where
   pub tiled : {u : ℕ} → Sight (bytes "tile=(") 1 s i t → Sight (bytes "tile=(") 1 s (i + 1) u → (get_or s i 0 ≡ 60 → ⊥) → Behind s (i + 1) u n
   tiled {u} a b f = split t (length s)
       (λ h.
-      let e = S.stays (bytes "tile=(") s 4 1 refl i t (sym a.is ∙ L.told-some (length s) t h) in
+      let e = S.stays (bytes "tile=(") s 4 1 refl i t (sym a.is ∙ L.told_some (length s) t h) in
       let x = L.told_is (length s) u (b.is ∙ e) in
       subst (λ (j : ℕ). Behind s (i + 1) j n) (sym x) (beside f))
       (λ h. record {
         past = λ k.
-            let v : seen (bytes "tile=(") (suc (i + 1)) s ≡ some u = ap (λ (j : ℕ). seen (bytes "tile=(") j s) {x = suc (i + 1)} {y = i + 1 + 1} (omega arith) ∙ sym b.is ∙ L.told-some (length s) u k in
+            let v : seen (bytes "tile=(") (suc (i + 1)) s ≡ some u = ap (λ (j : ℕ). seen (bytes "tile=(") j s) {x = suc (i + 1)} {y = i + 1 + 1} (omega arith) ∙ sym b.is ∙ L.told_some (length s) u k in
             let w = S.fresh (bytes "tile=(") s (i + 1) u (omega arith) (sym a.is ∙ L.told_none (length s) t h) v in
             let z = g.shut h in
             let y : i + 1 ≤ u + 6 = omega arith in
@@ -96,12 +96,12 @@ take-nil zero = refl
 take-nil (suc n) = refl
 
 -- a part of the first e bytes
-pub take-drop : (s : Text) (b e : ℕ) → take (e - b) (drop b s) ≡ drop b (take e s)
-take-drop s zero e = ap (λ (n : ℕ). take n s) {x = e - 0} {y = e} (omega arith)
-take-drop [] (suc b) zero = take-nil (0 - suc b)
-take-drop [] (suc b) (suc e) = take-nil (suc e - suc b)
-take-drop (x ∷ s) (suc b) zero = ap (λ (n : ℕ). take n (drop b s)) {x = 0 - suc b} {y = 0} (omega arith)
-take-drop (x ∷ s) (suc b) (suc e) = ap (λ (n : ℕ). take n (drop b s)) {x = suc e - suc b} {y = e - b} (omega arith) ∙ take-drop s b e
+pub take_drop : (s : Text) (b e : ℕ) → take (e - b) (drop b s) ≡ drop b (take e s)
+take_drop s zero e = ap (λ (n : ℕ). take n s) {x = e - 0} {y = e} (omega arith)
+take_drop [] (suc b) zero = take-nil (0 - suc b)
+take_drop [] (suc b) (suc e) = take-nil (suc e - suc b)
+take_drop (x ∷ s) (suc b) zero = ap (λ (n : ℕ). take n (drop b s)) {x = 0 - suc b} {y = 0} (omega arith)
+take_drop (x ∷ s) (suc b) (suc e) = ap (λ (n : ℕ). take n (drop b s)) {x = suc e - suc b} {y = e - b} (omega arith) ∙ take_drop s b e
 
 pub later : {s : Text} {e t n : ℕ} → Behind s e t n → e ≤ length s → Later (take e s) t n
 later {s} {e} {t} {n} g h = record {
@@ -110,6 +110,6 @@ later {s} {e} {t} {n} g h = record {
       record {
         is = L.narrow (length (drop (t + 6) s)) n (bytes "tensor_view<") (drop (t + 6) (take e s))
             ((g.past (omega arith)).is ∙ ap (λ (k : ℕ). seen (bytes "tensor_view<") k (drop (t + 6) s)) {x = e - (t + 6) + 0} {y = e - (t + 6)} (omega arith)
-            ∙ ap (λ (u : Text). place (cut (bytes "tensor_view<") u)) (take-drop s (t + 6) e)) (omega arith) (omega arith);
+            ∙ ap (λ (u : Text). place (cut (bytes "tensor_view<") u)) (take_drop s (t + 6) e)) (omega arith) (omega arith);
       };
 }

@@ -12,18 +12,18 @@ use lib.ListN.{length, take, drop, get_or, length-drop}
 use lib.Seq.{take-length, length-take-le}
 use Rattle.lexis.specs.Text.{Text, if◌then◌else◌, begins, after, Cut, nowhere, at, later, place}
 use Rattle.lexis.proofs.Lists.{behind, rest}
-use Rattle.lexis.proofs.Seeking.{Reach, begins-within, after-drop}
-use Rattle.meaning.specs.Parts.{each, depth, close, less-final, content-by, content, bracketed}
+use Rattle.lexis.proofs.Seeking.{Reach, begins_within, after_drop}
+use Rattle.meaning.specs.Parts.{each, depth, close, less_final, content_by, content, bracketed}
 
 -- ── a `>` at the end ──
 
 -- the last byte decides
-last : (u : List ℕ) (b : ℕ) → less-final (u ++ b ∷ []) ≡ if eqb b 62 then some u else none
+last : (u : List ℕ) (b : ℕ) → less_final (u ++ b ∷ []) ≡ if eqb b 62 then some u else none
 last [] b = refl
 last (a ∷ u) b = more u (last u b) ∙ by (eqb b 62)
   where
-    more : (u : List ℕ) → less-final (u ++ b ∷ []) ≡ if eqb b 62 then some u else none
-        → less-final (a ∷ u ++ b ∷ []) ≡ each (λ t. a ∷ t) (if eqb b 62 then some u else none)
+    more : (u : List ℕ) → less_final (u ++ b ∷ []) ≡ if eqb b 62 then some u else none
+        → less_final (a ∷ u ++ b ∷ []) ≡ each (λ t. a ∷ t) (if eqb b 62 then some u else none)
     more [] e = ap (each (λ (t : Text). a ∷ t)) e
     more (c ∷ u) e = ap (each (λ (t : Text). a ∷ t)) e
 
@@ -32,17 +32,17 @@ last (a ∷ u) b = more u (last u b) ∙ by (eqb b 62)
     by false = refl
 
 module _ (s : List ℕ) where
-  by_last : 0 < length s → less-final s ≡ if eqb (get_or s (length s - 1) 0) 62 then some (take (length s - 1) s) else none
-  by_last h = ap less-final (sym (take-length s) ∙ behind s (length s) h (omega arith)) ∙ last (take (length s - 1) s) (get_or s (length s - 1) 0)
+  by_last : 0 < length s → less_final s ≡ if eqb (get_or s (length s - 1) 0) 62 then some (take (length s - 1) s) else none
+  by_last h = ap less_final (sym (take-length s) ∙ behind s (length s) h (omega arith)) ∙ last (take (length s - 1) s) (get_or s (length s - 1) 0)
 
-  pub final-none : length s ≡ 0 → each length (less-final s) ≡ none
-  final-none h = rw (sym (take-length s) ∙ ap (λ (n : ℕ). take n s) h)
+  pub final_none : length s ≡ 0 → each length (less_final s) ≡ none
+  final_none h = rw (sym (take-length s) ∙ ap (λ (n : ℕ). take n s) h)
 
-  pub final-some : 0 < length s → get_or s (length s - 1) 0 ≡ 62 → each length (less-final s) ≡ some (length s - 1)
-  final-some h e = rw (by_last h, e, length-take-le (length s - 1) s (omega arith))
+  pub final_some : 0 < length s → get_or s (length s - 1) 0 ≡ 62 → each length (less_final s) ≡ some (length s - 1)
+  final_some h e = rw (by_last h, e, length-take-le (length s - 1) s (omega arith))
 
-  pub final-other : 0 < length s → (get_or s (length s - 1) 0 ≡ 62 → ⊥) → each length (less-final s) ≡ none
-  final-other h e = rw (by_last h, ne_eqb (get_or s (length s - 1) 0) 62 e)
+  pub final_other : 0 < length s → (get_or s (length s - 1) 0 ≡ 62 → ⊥) → each length (less_final s) ≡ none
+  final_other h e = rw (by_last h, ne_eqb (get_or s (length s - 1) 0) 62 e)
 
 -- ── for callers: what a place and a length say ──
 
@@ -70,15 +70,15 @@ module _ (s : List ℕ) (n : ℕ) where
           let g : t ≡ drop (n + 1) s = r.back ∙ ap (λ (n : ℕ). drop (n + 1) s) k in
           λ j. at (f j) (g j)
 
-  pub close-within : place (close 0 s) ≡ some n → n < length s
-  close-within e = by (close 0 s) (reach 0 s) e
+  pub close_within : place (close 0 s) ≡ some n → n < length s
+  close_within e = by (close 0 s) (reach 0 s) e
     where
       by : (c : Cut) → Reach (62 ∷ []) s c → place c ≡ some n → n < length s
       by nowhere r e = let z : ◌≡◌ {A = ℕ} 0 1 = cc in let f : ⊥ = omega arith in absurd f
       by (at u t) r e = let k : length u ≡ n = cc in omega (arith, r.room)
 
-pub close-nowhere : (s : List ℕ) → place (close 0 s) ≡ none → close 0 s ≡ nowhere
-close-nowhere s e = by (close 0 s) e
+pub close_nowhere : (s : List ℕ) → place (close 0 s) ≡ none → close 0 s ≡ nowhere
+close_nowhere s e = by (close 0 s) e
   where
     by : (c : Cut) → place c ≡ none → c ≡ nowhere
     by nowhere e = refl
@@ -97,59 +97,59 @@ longer : (b : ℕ) (s : List ℕ) (o : Option Text) → May 0 s o → May 0 (b �
 longer b s none m = tt
 longer b s (some t) m = record { front = ap (λ (l : List ℕ). b ∷ l) m.front; room = omega (arith, m.room) }
 
-final-may : (s : List ℕ) → May 0 s (less-final s)
-final-may [] = tt
-final-may (b ∷ []) = by (eqb b 62)
+final_may : (s : List ℕ) → May 0 s (less_final s)
+final_may [] = tt
+final_may (b ∷ []) = by (eqb b 62)
   where
     by : (d : Bool) → May 0 (b ∷ []) (if d then some [] else none)
     by true = record { front = refl; room = omega arith }
     by false = tt
-final-may (b ∷ c ∷ s) = longer b (c ∷ s) (less-final (c ∷ s)) (final-may (c ∷ s))
+final_may (b ∷ c ∷ s) = longer b (c ∷ s) (less_final (c ∷ s)) (final_may (c ∷ s))
 
-content-may : (s : List ℕ) → May 0 s (content s)
-content-may s = by (close 0 s) (reach 0 s)
+content_may : (s : List ℕ) → May 0 s (content s)
+content_may s = by (close 0 s) (reach 0 s)
   where
-    by : (c : Cut) → Reach (62 ∷ []) s c → May 0 s (content-by s c)
-    by nowhere r = final-may s
+    by : (c : Cut) → Reach (62 ∷ []) s c → May 0 s (content_by s c)
+    by nowhere r = final_may s
     by (at u t) r = record { front = r.front; room = omega (arith, r.room) }
 
-behind-prefix : (p s : List ℕ) (o : Option Text) → length p ≤ length s → May 0 (drop (length p) s) o → May (length p) s o
-behind-prefix p s none h m = tt
-behind-prefix p s (some t) h m = record { front = m.front; room = omega (arith, m.room, length-drop (length p) s) }
+behind_prefix : (p s : List ℕ) (o : Option Text) → length p ≤ length s → May 0 (drop (length p) s) o → May (length p) s o
+behind_prefix p s none h m = tt
+behind_prefix p s (some t) h m = record { front = m.front; room = omega (arith, m.room, length-drop (length p) s) }
 
-bracketed-may : (p s : List ℕ) → May (length p) s (bracketed p s)
-bracketed-may p s = by (begins p s) (begins-within p s) (after-drop p s)
+bracketed_may : (p s : List ℕ) → May (length p) s (bracketed p s)
+bracketed_may p s = by (begins p s) (begins_within p s) (after_drop p s)
   where
     by : (d : Bool) → (d ≡ true → length p ≤ length s) → (d ≡ true → after p s ≡ drop (length p) s)
         → May (length p) s (if d then content (after p s) else none)
-    by true h e = rw (e refl) (behind-prefix p s (content (drop (length p) s)) (h refl) (content-may (drop (length p) s)))
+    by true h e = rw (e refl) (behind_prefix p s (content (drop (length p) s)) (h refl) (content_may (drop (length p) s)))
     by false h e = tt
 
 module _ (p s : List ℕ) (n : ℕ) where
-  pub bracketed-at : each length (bracketed p s) ≡ some n → bracketed p s ≡ some (take n (drop (length p) s))
-  bracketed-at e = by (bracketed p s) (bracketed-may p s) e
+  pub bracketed_at : each length (bracketed p s) ≡ some n → bracketed p s ≡ some (take n (drop (length p) s))
+  bracketed_at e = by (bracketed p s) (bracketed_may p s) e
     where
       by : (o : Option Text) → May (length p) s o → each length o ≡ some n → o ≡ some (take n (drop (length p) s))
       by none m e = let z : ◌≡◌ {A = ℕ} 0 1 = cc in let f : ⊥ = omega arith in absurd f
       by (some t) m e = let k : length t ≡ n = cc in ap some (m.front ∙ ap (λ (n : ℕ). take n (drop (length p) s)) k)
 
-  pub bracketed-within : each length (bracketed p s) ≡ some n → length p + n ≤ length s
-  bracketed-within e = by (bracketed p s) (bracketed-may p s) e
+  pub bracketed_within : each length (bracketed p s) ≡ some n → length p + n ≤ length s
+  bracketed_within e = by (bracketed p s) (bracketed_may p s) e
     where
       by : (o : Option Text) → May (length p) s o → each length o ≡ some n → length p + n ≤ length s
       by none m e = let z : ◌≡◌ {A = ℕ} 0 1 = cc in let f : ⊥ = omega arith in absurd f
       by (some t) m e = let k : length t ≡ n = cc in omega (arith, m.room)
 
   -- the same, by the rest of s
-  pub content-is : each length (bracketed p s) ≡ some n → bracketed p s ≡ some (take n (take (length s - length p) (drop (length p) s)))
-  content-is e = rw (rest s (length p)) (bracketed-at e)
+  pub content_is : each length (bracketed p s) ≡ some n → bracketed p s ≡ some (take n (take (length s - length p) (drop (length p) s)))
+  content_is e = rw (rest s (length p)) (bracketed_at e)
 
-  pub content-fits : each length (bracketed p s) ≡ some n → n ≡ length (take n (take (length s - length p) (drop (length p) s)))
-  content-fits e = rw (rest s (length p))
-      (sym (length-take-le n (drop (length p) s) (rw length-drop (omega (arith, bracketed-within e)))))
+  pub content_fits : each length (bracketed p s) ≡ some n → n ≡ length (take n (take (length s - length p) (drop (length p) s)))
+  content_fits e = rw (rest s (length p))
+      (sym (length-take-le n (drop (length p) s) (rw length-drop (omega (arith, bracketed_within e)))))
 
-pub bracketed-none : (p s : List ℕ) → each length (bracketed p s) ≡ none → bracketed p s ≡ none
-bracketed-none p s e = by (bracketed p s) e
+pub bracketed_none : (p s : List ℕ) → each length (bracketed p s) ≡ none → bracketed p s ≡ none
+bracketed_none p s e = by (bracketed p s) e
   where
     by : (o : Option Text) → each length o ≡ none → o ≡ none
     by none e = refl
@@ -161,16 +161,16 @@ module _ (s : List ℕ) where
   pub matched : (n : ℕ) → place (close 0 s) ≡ some n → each length (content s) ≡ some n
   matched n e = by (close 0 s) e
     where
-      by : (c : Cut) → place c ≡ some n → each length (content-by s c) ≡ some n
+      by : (c : Cut) → place c ≡ some n → each length (content_by s c) ≡ some n
       by nowhere e = let z : ◌≡◌ {A = ℕ} 0 1 = cc in let f : ⊥ = omega arith in absurd f
       by (at u t) e = e
 
-  pub unmatched : place (close 0 s) ≡ none → each length (content s) ≡ each length (less-final s)
-  unmatched e = rw (close-nowhere s e)
+  pub unmatched : place (close 0 s) ≡ none → each length (content s) ≡ each length (less_final s)
+  unmatched e = rw (close_nowhere s e)
 
 module _ (p s : List ℕ) where
   pub foreign : begins p s ≡ false → each length (bracketed p s) ≡ none
   foreign e = rw e
 
   pub opening : begins p s ≡ true → each length (bracketed p s) ≡ each length (content (take (length s - length p) (drop (length p) s)))
-  opening e = rw (e, after-drop p s e, rest s (length p))
+  opening e = rw (e, after_drop p s e, rest s (length p))

@@ -10,7 +10,7 @@ use lib.ListN.{length, take, drop, get_or}
 use lib.Seq.{take-length}
 use Rattle.lexis.specs.Text.{Text, begins}
 use Rattle.lexis.proofs.Lists.{rest}
-use Rattle.meaning.specs.Parts.{each, less-final, content, bracketed}
+use Rattle.meaning.specs.Parts.{each, less_final, content, bracketed}
 use Rattle.port.specs.Seen.{told}
 use Rattle.port.specs.Keys.{Placed, Scanned, Contained}
 use Rattle.port.specs.Carried.{Told}
@@ -18,57 +18,57 @@ use Rattle.port.specs.declared.keys.Places.{Places}
 use Rattle.port.specs.declared.survey.Scanning.{Scanning}
 use Rattle.port.proofs.Sighting as L
 use Rattle.port.proofs.Placing as U
-use Rattle.port.proofs.Bracketing.{final-none, final-some, final-other, matched, unmatched, foreign, opening, bracketed-at}
+use Rattle.port.proofs.Bracketing.{final_none, final_some, final_other, matched, unmatched, foreign, opening, bracketed_at}
 
 -- ── by the scan ──
 
 module _ {s : Text} {r : Scanning} (g : Scanned s r) where
-  pub by-match : r.end < length s → Contained s r
-  by-match h = record {
-    end = L.told-some (length s) r.end h ∙ sym (matched s r.end (sym g.end ∙ L.told-some (length s) r.end h));
+  pub by_match : r.end < length s → Contained s r
+  by_match h = record {
+    end = L.told_some (length s) r.end h ∙ sym (matched s r.end (sym g.end ∙ L.told_some (length s) r.end h));
     places = λ k. g.places;
   }
 
   module _ (h : length s ≤ r.end) where
-    open-ended : each length (content s) ≡ each length (less-final s)
-    open-ended = unmatched s (sym g.end ∙ L.told_none (length s) r.end h)
+    open_ended : each length (content s) ≡ each length (less_final s)
+    open_ended = unmatched s (sym g.end ∙ L.told_none (length s) r.end h)
 
-    nowhere-to : each length (less-final s) ≡ none → Contained s r
-    nowhere-to e = record {
-      end = L.told_none (length s) r.end h ∙ sym (open-ended ∙ e);
+    nowhere_to : each length (less_final s) ≡ none → Contained s r
+    nowhere_to e = record {
+      end = L.told_none (length s) r.end h ∙ sym (open_ended ∙ e);
       places = λ k. let f : ⊥ = omega arith in absurd f;
     }
 
-    pub by-nothing : length s ≡ 0 → Contained s r
-    by-nothing z = nowhere-to (final-none s z)
+    pub by_nothing : length s ≡ 0 → Contained s r
+    by_nothing z = nowhere_to (final_none s z)
 
-    pub by-other : 0 < length s → (get_or s (length s - 1) 0 ≡ 62 → ⊥) → Contained s r
-    by-other z f = nowhere-to (final-other s z f)
+    pub by_other : 0 < length s → (get_or s (length s - 1) 0 ≡ 62 → ⊥) → Contained s r
+    by_other z f = nowhere_to (final_other s z f)
 
-    pub by-final : 0 < length s → get_or s (length s - 1) 0 ≡ 62 → Contained s (record { end = length s - 1; places = r.places })
-    by-final z e =
+    pub by_final : 0 < length s → get_or s (length s - 1) 0 ≡ 62 → Contained s (record { end = length s - 1; places = r.places })
+    by_final z e =
         let n : r.end ≡ length s = let i = g.inside in omega arith in
         record {
-          end = L.told-some (length s) (length s - 1) (omega arith) ∙ sym (open-ended ∙ final-some s z e);
+          end = L.told_some (length s) (length s - 1) (omega arith) ∙ sym (open_ended ∙ final_some s z e);
           places = λ k. U.dropped (subst (λ (c : Text). Placed c r.places) (ap (λ (k : ℕ). take k s) n ∙ take-length s) g.places) z e;
         }
 
 -- ── a form that opens with p ──
 
 module _ (p s : Text) where
-  pub foreign-form : begins p s ≡ false → {k : Places} → Told p s (record { applies = false; len = 0; places = k })
-  foreign-form e = record { is = sym (foreign p s e); places = λ t. absurd (false≢true t) }
+  pub foreign_form : begins p s ≡ false → {k : Places} → Told p s (record { applies = false; len = 0; places = k })
+  foreign_form e = record { is = sym (foreign p s e); places = λ t. absurd (false≢true t) }
 
   abbrev behind : Text
   behind = take (length s - length p) (drop (length p) s)
 
-  pub scanned-form : begins p s ≡ true → {r : Scanning} → Contained behind r → Told p s (record { applies = ltb r.end (length behind); len = r.end; places = r.places })
-  scanned-form e {r} g = record {
+  pub scanned_form : begins p s ≡ true → {r : Scanning} → Contained behind r → Told p s (record { applies = ltb r.end (length behind); len = r.end; places = r.places })
+  scanned_form e {r} g = record {
     is = long;
     places = λ t c q.
         let h = ltb-true r.end (length behind) t in
-        let n : each length (bracketed p s) ≡ some r.end = sym long ∙ L.told-some (length behind) r.end h in
-        let k : some (take r.end (drop (length p) s)) ≡ some c = sym (bracketed-at p s r.end n) ∙ q in
+        let n : each length (bracketed p s) ≡ some r.end = sym long ∙ L.told_some (length behind) r.end h in
+        let k : some (take r.end (drop (length p) s)) ≡ some c = sym (bracketed_at p s r.end n) ∙ q in
         let w : take r.end (drop (length p) s) ≡ c = cc in
         subst (λ (c : Text). Placed c r.places) (ap (take r.end) (rest s (length p)) ∙ w) (g.places h);
   }

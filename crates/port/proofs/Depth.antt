@@ -14,7 +14,7 @@ use lib.Seq.{drop-drop}
 use Rattle.lexis.specs.Text.{if◌then◌else◌, Cut, nowhere, at, later, place, until}
 use Rattle.lexis.proofs.Lists.{view}
 use Rattle.lexis.proofs.Seeking.{shifted, unshifted}
-use Rattle.lexis.proofs.Passing.{shifted-twice, one_later}
+use Rattle.lexis.proofs.Passing.{shifted_twice, one_later}
 use Rattle.meaning.specs.Parts.{shallower, depth, close}
 
 module _ (d b : ℕ) where
@@ -82,10 +82,10 @@ module _ (hot : ℕ → Bool) (g : (d b : ℕ) → hot b ≡ false → depth d b
           → place (close d (b ∷ l)) ≡ shifted (n k) (place (close d (drop (n k) (b ∷ l))))
       by true e o = unshifted (place (close d (b ∷ l)))
       by false e o = ap (λ (z : Option ℕ). place (elim z [ none ↦ at [] l | some e ↦ later b (close e l) ])) (g d b e)
-          ∙ one_later b (close d l) ∙ ap (shifted 1) o ∙ shifted-twice 1 (far l) (place (close d (drop (far l) l)))
+          ∙ one_later b (close d l) ∙ ap (shifted 1) o ∙ shifted_twice 1 (far l) (place (close d (drop (far l) l)))
           ∙ ap (λ (k : ℕ). shifted k (place (close d (drop (far l) l)))) (omega arith)
 
   pub sought : (s : List ℕ) (d k : ℕ) {i : ℕ} → i ≡ k + far (drop k s) → match s d k ≡ match s d i
-  sought s d k e = ap (shifted k) (over d (drop k s)) ∙ shifted-twice k (far (drop k s)) (place (close d (drop (far (drop k s)) (drop k s))))
+  sought s d k e = ap (shifted k) (over d (drop k s)) ∙ shifted_twice k (far (drop k s)) (place (close d (drop (far (drop k s)) (drop k s))))
       ∙ ap (λ (t : List ℕ). shifted (k + far (drop k s)) (place (close d t))) (drop-drop (far (drop k s)) k s)
       ∙ ap (λ (n : ℕ). match s d n) (sym e)

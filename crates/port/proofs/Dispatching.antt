@@ -8,29 +8,29 @@ use lib.Dec.{eqb}
 use borrow.Author.Tests.{eqb-true}
 use lib.ListN.{length, drop}
 use Rattle.lexis.specs.Text.{Text, bytes, if◌then◌else◌, same, begins}
-use Rattle.scalars.specs.Names.{scalar-name}
+use Rattle.scalars.specs.Names.{scalar_name}
 use Rattle.scalars.specs.declared.scalar.Scalar.{Scalar}
 use Rattle.scalars.specs.declared.scalar.Scalar.TheVariants.{I1}
 use Rattle.meaning.specs.Found.{Found, plain, token}
 use Rattle.meaning.specs.Parts.{each, bracketed}
-use Rattle.meaning.specs.Ordinary.{pointer, Form, by-forms, forms, unmarked}
+use Rattle.meaning.specs.Ordinary.{pointer, Form, by_forms, forms, unmarked}
 use Rattle.meaning.specs.declared.Kind.TheVariants as K
 use Rattle.meaning.specs.declared.Reading.{Reading}
 use Rattle.port.specs.Carried.{carried, answered, Told}
 use Rattle.port.specs.Forms.{shorthand, unprefixed, bare, first_of}
 use Rattle.port.specs.declared.brackets.Applied.{Applied}
-use Rattle.port.proofs.Bracketing.{bracketed-none}
+use Rattle.port.proofs.Bracketing.{bracketed_none}
 use Rattle.lexis.proofs.Seeking.{turned}
 
 -- ── a name ──
 
-module _ (b : Bool) {x : Reading} {o : Option Scalar} (s : Text) (g : scalar-name s ≡ o) where
-  pub bare-named : x ≡ answered b (each (carried 8) (each (plain K.Scalar) o)) → x ≡ answered b (each (carried 8) (each (plain K.Scalar) (scalar-name s)))
-  bare-named e = e ∙ ap (λ (o : Option Scalar). answered b (each (carried 8) (each (plain K.Scalar) o))) (sym g)
+module _ (b : Bool) {x : Reading} {o : Option Scalar} (s : Text) (g : scalar_name s ≡ o) where
+  pub bare_named : x ≡ answered b (each (carried 8) (each (plain K.Scalar) o)) → x ≡ answered b (each (carried 8) (each (plain K.Scalar) (scalar_name s)))
+  bare_named e = e ∙ ap (λ (o : Option Scalar). answered b (each (carried 8) (each (plain K.Scalar) o))) (sym g)
 
-  pub pointer-named : x ≡ answered b (each (carried 8) (each (plain K.Pointer) o)) → x ≡ answered b (each (carried 8) (pointer s))
+  pub pointer_named : x ≡ answered b (each (carried 8) (each (plain K.Pointer) o)) → x ≡ answered b (each (carried 8) (pointer s))
   unfolding pointer
-  pointer-named e = e ∙ ap (λ (o : Option Scalar). answered b (each (carried 8) (each (plain K.Pointer) o))) (sym g)
+  pointer_named e = e ∙ ap (λ (o : Option Scalar). answered b (each (carried 8) (each (plain K.Pointer) o))) (sym g)
 
 -- ── the forms in order ──
 
@@ -42,7 +42,7 @@ module _ {p s : Text} {r : Applied} (e : Told p s r) where
   applied t = by true t
 
   pub unapplied : r.applies ≡ false → bracketed p s ≡ none
-  unapplied t = bracketed-none p s (by false t)
+  unapplied t = bracketed_none p s (by false t)
 
 -- no form before fs applies
 pub record Tried (all : List Form) (d : Option Found) (t : Text) (fs : List Form) : Type 0 where
@@ -80,7 +80,7 @@ long t = by (same t (bytes "token"))
     s : Text
     s = bytes "!cuda_tile." ++ t
 
-    by : (d : Bool) → (if d || false then some token else by-forms forms s) ≡ (if d then some token else first_of shorthand t (bare s))
+    by : (d : Bool) → (if d || false then some token else by_forms forms s) ≡ (if d then some token else first_of shorthand t (bare s))
     by true = refl
     by false = refl
 
@@ -131,9 +131,9 @@ spelled s = by (begins (bytes "!cuda_tile.") s) refl
     by false e = short s e
 
 module _ (s : Text) where
-  pub is-token : same (unprefixed s) (bytes "token") ≡ true → some (carried 8 (plain K.Token I1)) ≡ each (carried 8) (unmarked s)
+  pub is_token : same (unprefixed s) (bytes "token") ≡ true → some (carried 8 (plain K.Token I1)) ≡ each (carried 8) (unmarked s)
   unfolding token
-  is-token e = sym (ap (each (carried 8)) (spelled s ∙ ap (λ (d : Bool). if d then some token else first_of shorthand (unprefixed s) (bare s)) e))
+  is_token e = sym (ap (each (carried 8)) (spelled s ∙ ap (λ (d : Bool). if d then some token else first_of shorthand (unprefixed s) (bare s)) e))
 
-  pub no-token : same (unprefixed s) (bytes "token") ≡ false → first_of shorthand (unprefixed s) (bare s) ≡ unmarked s
-  no-token e = sym (spelled s ∙ ap (λ (d : Bool). if d then some token else first_of shorthand (unprefixed s) (bare s)) e)
+  pub no_token : same (unprefixed s) (bytes "token") ≡ false → first_of shorthand (unprefixed s) (bare s) ≡ unmarked s
+  no_token e = sym (spelled s ∙ ap (λ (d : Bool). if d then some token else first_of shorthand (unprefixed s) (bare s)) e)

@@ -7,7 +7,7 @@ use mathlib.Core.Path.{◌≡◌, refl, sym, ap, ◌∙◌}
 use lib.ListN.{length, take, drop, get_or}
 use Rattle.lexis.specs.Text.{Text, place, until}
 use Rattle.lexis.proofs.Seeking.{unshifted}
-use Rattle.lexis.proofs.Passing.{sought-within}
+use Rattle.lexis.proofs.Passing.{sought_within}
 use Rattle.meaning.specs.Parts.{depth, close}
 use Rattle.port.specs.Seen.{hot}
 use Rattle.port.specs.Keys.{Sights, Placed, Scanned}
@@ -83,7 +83,7 @@ pub record Kept (s : Text) (d i : ℕ) (r : Places) : Type 0 where
 pub begin : {s : Text} {r : Places} {i : ℕ} → Sights s 0 r → i ≡ 0 + length (until hot (drop 0 s)) → Kept s 0 i r
 begin {s} {r} {i} g e = record {
   low = omega arith;
-  inside = sought-within hot s 0 i (omega arith) e;
+  inside = sought_within hot s 0 i (omega arith) e;
   match = unshifted (place (close 0 s)) ∙ D.sought hot plain s 0 0 e;
   sights = jumped g (omega arith) e;
 }
@@ -93,14 +93,14 @@ module _ {s : Text} {d i : ℕ} {r : Places} (g : Kept s d i r) where
       → k ≡ (i + 1) + length (until hot (drop (i + 1) s)) → Kept s e k q
   again {e} {k} h p f n = record {
     low = let a = D.grows d (get_or s i 0) p in omega (arith, g.low);
-    inside = sought-within hot s (i + 1) k (omega arith) n;
+    inside = sought_within hot s (i + 1) k (omega arith) n;
     match = g.match ∙ D.step s d i (some e) h p ∙ D.sought hot plain s e (i + 1) n;
     sights = jumped f (omega arith) n;
   }
 
   pub matched : i < length s → get_or s i 0 ≡ 62 → d ≡ 0 → Scanned s (record { end = i; places = r })
   matched h b z = record {
-    end = L.told-some (length s) i h ∙ sym (g.match ∙ D.step s d i none h (D.closes d (get_or s i 0) b z));
+    end = L.told_some (length s) i h ∙ sym (g.match ∙ D.step s d i none h (D.closes d (get_or s i 0) b z));
     inside = g.inside;
     places = closed g.sights b g.inside;
   }

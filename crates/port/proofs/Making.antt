@@ -10,7 +10,7 @@ use lib.Dec.{leb}
 use lib.IntN.{ℤ, pos}
 use lib.ListN.{length, get_or}
 use Rattle.lexis.specs.Text.{if◌then◌else◌}
-use Rattle.meaning.specs.Found.{Clause, stands, filled, values, padded, Found, flat, within, unreadable, lacking, counts, with-attribute}
+use Rattle.meaning.specs.Found.{Clause, stands, filled, values, padded, Found, flat, within, unreadable, lacking, counts, with_attribute}
 use Rattle.meaning.specs.Parts.{each}
 use Rattle.meaning.specs.Ordinary.{refused, accepted, judged}
 use Rattle.meaning.specs.declared.Note.{Note}
@@ -19,8 +19,8 @@ use Rattle.meaning.specs.declared.Record.{Record}
 use Rattle.meaning.specs.declared.Refusal.TheVariants.{Accepted, TooMany}
 use Rattle.lists.specs.Laid.{Laid, laid, row}
 use Rattle.lists.specs.declared.row.Row.{Row}
-use Rattle.lists.proofs.Bounds.{fell-within}
-use Rattle.port.specs.Carried.{carried, any, lacks, fell, rows-noted, noted, recorded, lengths-within, answered, Sound}
+use Rattle.lists.proofs.Bounds.{fell_within}
+use Rattle.port.specs.Carried.{carried, any, lacks, fell, rows_noted, noted, recorded, lengths_within, answered, Sound}
 
 -- ── the code's tests ──
 
@@ -31,25 +31,25 @@ pub any_some : (n : ℕ) → (n ≡ 0 → ⊥) → 1 ≡ any n
 any_some zero h = absurd (h refl)
 any_some (suc n) h = refl
 
-pub lacks-few : (r : Row) → lacks r ≤ 1
-lacks-few r = by r.stood r.len
+pub lacks_few : (r : Row) → lacks r ≤ 1
+lacks_few r = by r.stood r.len
   where
     by : (b : Bool) (n : ℕ) → (if b then 0 else any n) ≤ 1
     by true n = omega arith
     by false zero = omega arith
     by false (suc n) = omega arith
 
-pub or-false : (b : Bool) → b ≡ b || false
-or-false true = refl
-or-false false = refl
+pub or_false : (b : Bool) → b ≡ b || false
+or_false true = refl
+or_false false = refl
 
 -- ── what was found is sound ──
 
-pub sound-list : {l : Laid} (c : Clause) → l ≡ laid 8 c → fell l ≤ l.row.len
-sound-list c e = subst (λ (m : Laid). fell m ≤ m.row.len) (sym e) (fell-within c)
+pub sound_list : {l : Laid} (c : Clause) → l ≡ laid 8 c → fell l ≤ l.row.len
+sound_list c e = subst (λ (m : Laid). fell m ≤ m.row.len) (sym e) (fell_within c)
 
-pub sound-one : {l : Laid} (c : Clause) → l ≡ laid 8 c → length (values c) ≤ 1 → fell l ≤ 1
-sound-one {l} c e h = let k = fell-within c in let n : fell l ≡ unreadable c = ap fell e in omega arith
+pub sound_one : {l : Laid} (c : Clause) → l ≡ laid 8 c → length (values c) ≤ 1 → fell l ≤ 1
+sound_one {l} c e h = let k = fell_within c in let n : fell l ≡ unreadable c = ap fell e in omega arith
 
 both : (a b : Bool) → a && b ≡ true → (a ≡ true) × (b ≡ true)
 both true b e = (refl, e)
@@ -70,37 +70,37 @@ few {a} {b} {t} {m} {w} {z} g e =
 
 -- the attribute, where a mark was found
 abbrev pub marked : Bool → Found → Found
-marked b t = if b then with-attribute t else t
+marked b t = if b then with_attribute t else t
 
 first : (zs : List ℤ) → get_or (padded 8 zs) 0 (pos 0) ≡ get_or zs 0 (pos 0)
 first [] = refl
 first (z ∷ zs) = refl
 
-lacks-is : (c : Clause) → lacks (row c) ≡ lacking c
-lacks-is (stands es) = refl
-lacks-is (filled []) = refl
-lacks-is (filled (z ∷ zs)) = refl
+lacks_is : (c : Clause) → lacks (row c) ≡ lacking c
+lacks_is (stands es) = refl
+lacks_is (filled []) = refl
+lacks_is (filled (z ∷ zs)) = refl
 
 module _ (t : Found) where
-  recorded-is : (b : Bool) → recorded b (carried 8 t) ≡ flat 8 (marked b t)
-  unfolding recorded flat with-attribute
-  recorded-is true = rw (first (values t.sparse))
-  recorded-is false = rw (first (values t.sparse))
+  recorded_is : (b : Bool) → recorded b (carried 8 t) ≡ flat 8 (marked b t)
+  unfolding recorded flat with_attribute
+  recorded_is true = rw (first (values t.sparse))
+  recorded_is false = rw (first (values t.sparse))
 
-  noted-is : (b : Bool) → noted (carried 8 t) ≡ counts (marked b t)
-  unfolding rows-noted counts with-attribute
-  noted-is true = rw (lacks-is t.strides, lacks-is t.map, lacks-is t.traversal, lacks-is t.sparse)
-  noted-is false = rw (lacks-is t.strides, lacks-is t.map, lacks-is t.traversal, lacks-is t.sparse)
+  noted_is : (b : Bool) → noted (carried 8 t) ≡ counts (marked b t)
+  unfolding rows_noted counts with_attribute
+  noted_is true = rw (lacks_is t.strides, lacks_is t.map, lacks_is t.traversal, lacks_is t.sparse)
+  noted_is false = rw (lacks_is t.strides, lacks_is t.map, lacks_is t.traversal, lacks_is t.sparse)
 
-  within-is : (b : Bool) → lengths-within 8 (carried 8 t) ≡ within 8 (marked b t)
-  unfolding lengths-within within with-attribute
-  within-is true = refl
-  within-is false = refl
+  within_is : (b : Bool) → lengths_within 8 (carried 8 t) ≡ within 8 (marked b t)
+  unfolding lengths_within within with_attribute
+  within_is true = refl
+  within_is false = refl
 
 abbrev answer : Bool → Record → Note → Reading
 answer b v n = if b then record { refusal = Accepted; place = 0; value = v; note = n } else refused 8 TooMany 0
 
-pub answered-is : (b : Bool) (o : Option Found) → answered b (each (carried 8) o) ≡ judged 8 (each (marked b) o)
+pub answered_is : (b : Bool) (o : Option Found) → answered b (each (carried 8) o) ≡ judged 8 (each (marked b) o)
 unfolding accepted
-answered-is b none = refl
-answered-is b (some t) = λ i. answer (within-is t b i) (recorded-is t b i) (noted-is t b i)
+answered_is b none = refl
+answered_is b (some t) = λ i. answer (within_is t b i) (recorded_is t b i) (noted_is t b i)

@@ -9,44 +9,44 @@ use lib.Dec.{eqb}
 use lib.ListN.{length, take, drop, get_or, length-take, length-drop, drop_of_length-le}
 use lib.Seq.{get_or-drop, drop-drop, length-take-le}
 use Rattle.lexis.specs.Text.{Text, bytes, if◌then◌else◌, begins, after, Cut, nowhere, at, later, cut, place, some_of}
-use Rattle.lexis.proofs.Seeking.{cut_at, cut-nowhere, cut-within}
+use Rattle.lexis.proofs.Seeking.{cut_at, cut_nowhere, cut_within}
 use Rattle.meaning.specs.Views.{opened}
 use Rattle.port.specs.Seen.{seen}
 use Rattle.port.specs.Keys.{Spot, Later, Placed}
 use Rattle.port.specs.declared.keys.Places.{Places}
 use Rattle.port.proofs.Seeing as S
 use Rattle.port.proofs.Sighting as L
-use Rattle.port.proofs.Behinding.{split, take-drop}
+use Rattle.port.proofs.Behinding.{split, take_drop}
 
 -- ── a number that is a place, and one that is none ──
 
 module _ {p c : Text} {n : ℕ} (g : Spot p c n) where
   pub placed_at : n < length c → place (cut p c) ≡ some n
-  placed_at h = sym g.is ∙ L.told-some (length c) n h
+  placed_at h = sym g.is ∙ L.told_some (length c) n h
 
   pub placed : n < length c → cut p c ≡ at (take n c) (drop (n + length p) c)
   placed h = cut_at p c n (placed_at h)
 
   pub fits : n < length c → n + length p ≤ length c
-  fits h = cut-within p c n (placed_at h)
+  fits h = cut_within p c n (placed_at h)
 
-  pub unplaced-at : length c ≤ n → place (cut p c) ≡ none
-  unplaced-at h = sym g.is ∙ L.told_none (length c) n h
+  pub unplaced_at : length c ≤ n → place (cut p c) ≡ none
+  unplaced_at h = sym g.is ∙ L.told_none (length c) n h
 
   pub unplaced : length c ≤ n → cut p c ≡ nowhere
-  unplaced h = cut-nowhere p c (unplaced-at h)
+  unplaced h = cut_nowhere p c (unplaced_at h)
 
 -- ── a later start ──
 
 -- what is first, and stands no earlier than y, is first from y on
-pub later-start : (p u : Text) (y x : ℕ) → place (cut p u) ≡ some x → y ≤ x → place (cut p (drop y u)) ≡ some (x - y)
-later-start p u zero x e h = e ∙ ap some (omega arith)
-later-start p [] (suc y) x e h = by (begins p []) e
+pub later_start : (p u : Text) (y x : ℕ) → place (cut p u) ≡ some x → y ≤ x → place (cut p (drop y u)) ≡ some (x - y)
+later_start p u zero x e h = e ∙ ap some (omega arith)
+later_start p [] (suc y) x e h = by (begins p []) e
   where
     by : (d : Bool) → place (if d then at [] [] else nowhere) ≡ some x → place (if d then at [] [] else nowhere) ≡ some (x - suc y)
     by true e = let k : 0 ≡ x = cc in let f : ⊥ = omega arith in absurd f
     by false e = let z : ◌≡◌ {A = ℕ} 0 1 = cc in let f : ⊥ = omega arith in absurd f
-later-start p (b ∷ u) (suc y) x e h = by (begins p (b ∷ u)) e (later-start p u y (x - 1))
+later_start p (b ∷ u) (suc y) x e h = by (begins p (b ∷ u)) e (later_start p u y (x - 1))
   where
     inner : (c : Cut) → place (later b c) ≡ some x → place c ≡ some (x - 1)
     inner nowhere e = let z : ◌≡◌ {A = ℕ} 0 1 = cc in let f : ⊥ = omega arith in absurd f
@@ -58,10 +58,10 @@ later-start p (b ∷ u) (suc y) x e h = by (begins p (b ∷ u)) e (later-start p
     by false e f = f (inner (cut p u) e) (omega arith) ∙ ap some (omega arith)
 
 -- what is nowhere is nowhere from y on
-pub never-later : (p u : Text) (y : ℕ) → place (cut p u) ≡ none → place (cut p (drop y u)) ≡ none
-never-later p u zero e = e
-never-later p [] (suc y) e = e
-never-later p (b ∷ u) (suc y) e = by (begins p (b ∷ u)) e (never-later p u y)
+pub never_later : (p u : Text) (y : ℕ) → place (cut p u) ≡ none → place (cut p (drop y u)) ≡ none
+never_later p u zero e = e
+never_later p [] (suc y) e = e
+never_later p (b ∷ u) (suc y) e = by (begins p (b ∷ u)) e (never_later p u y)
   where
     inner : (c : Cut) → place (later b c) ≡ none → place c ≡ none
     inner nowhere e = refl
@@ -77,41 +77,41 @@ abbrev view : Text
 view = bytes "tensor_view<"
 
 module _ {c : Text} {t n : ℕ} (g : Later c t n) (h : t < length c) (y : ℕ) (k : t + 6 ≤ y) where
-  from-y : place (cut view (drop y c)) ≡ place (cut view (drop (y - (t + 6)) (drop (t + 6) c)))
-  from-y = let z : t + 6 + (y - (t + 6)) ≡ y = omega arith in
+  from_y : place (cut view (drop y c)) ≡ place (cut view (drop (y - (t + 6)) (drop (t + 6) c)))
+  from_y = let z : t + 6 + (y - (t + 6)) ≡ y = omega arith in
       sym (ap (λ (u : Text). place (cut view u)) (drop-drop (y - (t + 6)) (t + 6) c ∙ ap (λ (j : ℕ). drop j c) z))
 
-  pub none-behind : length c - (t + 6) ≤ n → place (cut view (drop y c)) ≡ none
-  none-behind f = let l = length-drop (t + 6) c in
-      from-y ∙ never-later view (drop (t + 6) c) (y - (t + 6)) (unplaced-at (g.past h) (omega arith))
+  pub none_behind : length c - (t + 6) ≤ n → place (cut view (drop y c)) ≡ none
+  none_behind f = let l = length-drop (t + 6) c in
+      from_y ∙ never_later view (drop (t + 6) c) (y - (t + 6)) (unplaced_at (g.past h) (omega arith))
 
-  pub first-behind : n < length c - (t + 6) → y ≤ t + 6 + n → place (cut view (drop y c)) ≡ some (t + 6 + n - y)
-  first-behind f m = let l = length-drop (t + 6) c in
-      from-y ∙ later-start view (drop (t + 6) c) (y - (t + 6)) n (placed_at (g.past h) (omega arith)) (omega arith) ∙ ap some (omega arith)
+  pub first_behind : n < length c - (t + 6) → y ≤ t + 6 + n → place (cut view (drop y c)) ≡ some (t + 6 + n - y)
+  first_behind f m = let l = length-drop (t + 6) c in
+      from_y ∙ later_start view (drop (t + 6) c) (y - (t + 6)) n (placed_at (g.past h) (omega arith)) (omega arith) ∙ ap some (omega arith)
 
 -- ── where the inner tensor view opens ──
 
 module _ {c : Text} {r : Places} (g : Placed c r) (b : Text) where
-  pub opened-named : r.named < length c → opened c b ≡ some (drop (r.named + 35) c)
+  pub opened_named : r.named < length c → opened c b ≡ some (drop (r.named + 35) c)
   unfolding opened
-  opened-named h = rw (placed g.named h)
+  opened_named h = rw (placed g.named h)
 
   module _ (n : length c ≤ r.named) where
-    pub opened-prefixed : r.prefixed < length c → opened c b ≡ some (drop (r.prefixed + 23) c)
+    pub opened_prefixed : r.prefixed < length c → opened c b ≡ some (drop (r.prefixed + 23) c)
     unfolding opened
-    opened-prefixed h = rw (unplaced g.named n, placed g.prefixed h)
+    opened_prefixed h = rw (unplaced g.named n, placed g.prefixed h)
 
     module _ (m : length c ≤ r.prefixed) where
-      pub opened-plain : (k : ℕ) → place (cut view b) ≡ some k → opened c b ≡ some (drop (k + 12) b)
+      pub opened_plain : (k : ℕ) → place (cut view b) ≡ some k → opened c b ≡ some (drop (k + 12) b)
       unfolding opened
-      opened-plain k f = rw (unplaced g.named n, unplaced g.prefixed m, cut_at view b k f)
+      opened_plain k f = rw (unplaced g.named n, unplaced g.prefixed m, cut_at view b k f)
 
-      pub opened-none : place (cut view b) ≡ none → opened c b ≡ none
+      pub opened_none : place (cut view b) ≡ none → opened c b ≡ none
       unfolding opened
-      opened-none f = rw (unplaced g.named n, unplaced g.prefixed m, cut-nowhere view b f)
+      opened_none f = rw (unplaced g.named n, unplaced g.prefixed m, cut_nowhere view b f)
 
-pub fits-behind : (p c : Text) (y n : ℕ) → y ≤ length c → place (cut p (drop y c)) ≡ some n → y + n + length p ≤ length c
-fits-behind p c y n h f = let a = cut-within p (drop y c) n f in let d = length-drop y c in omega arith
+pub fits_behind : (p c : Text) (y n : ℕ) → y ≤ length c → place (cut p (drop y c)) ≡ some n → y + n + length p ≤ length c
+fits_behind p c y n h f = let a = cut_within p (drop y c) n f in let d = length-drop y c in omega arith
 
 -- n bytes behind y, and its prefix
 pub both : (c : Text) (y n : ℕ) → drop (n + 12) (drop y c) ≡ drop (y + n + 12) c
@@ -128,15 +128,15 @@ less_one {p} {s} {n} g l f h e =
           l (let t = length-take (length s - 1) s in omega arith);
     }
 
-later-one : {s : Text} {t n : ℕ} → Later s t n → 0 < length s → get_or s (length s - 1) 0 ≡ 62 → Later (take (length s - 1) s) t n
-later-one {s} {t} {n} g h e = record {
+later_one : {s : Text} {t n : ℕ} → Later s t n → 0 < length s → get_or s (length s - 1) 0 ≡ 62 → Later (take (length s - 1) s) t n
+later_one {s} {t} {n} g h e = record {
   past = λ k.
       let l = length-take-le (length s - 1) s (omega arith) in let d = length-drop (t + 6) s in
       split (t + 6) (length s)
       (λ f.
       let z : t + 6 + (length (drop (t + 6) s) - 1) ≡ length s - 1 = omega arith in
       let y : length (drop (t + 6) s) - 1 ≡ length s - 1 - (t + 6) = omega arith in
-      subst (λ (u : Text). Spot view u n) (ap (λ (j : ℕ). take j (drop (t + 6) s)) y ∙ take-drop s (t + 6) (length s - 1))
+      subst (λ (u : Text). Spot view u n) (ap (λ (j : ℕ). take j (drop (t + 6) s)) y ∙ take_drop s (t + 6) (length s - 1))
       (less_one (g.past (omega arith)) (omega arith) refl (omega arith)
       (get_or-drop (t + 6) s (length (drop (t + 6) s) - 1) 0 ∙ ap (λ (j : ℕ). get_or s j 0) z ∙ e)))
       (λ f. subst (λ (u : Text). Spot view u n) (drop_of_length-le s f ∙ sym (drop_of_length-le (take (length s - 1) s) {i = t + 6} (omega arith))) (g.past (omega arith)));
@@ -154,5 +154,5 @@ dropped g h e = record {
   named = less_one g.named (omega arith) refl h e;
   prefixed = less_one g.prefixed (omega arith) refl h e;
   padding = less_one g.padding (omega arith) refl h e;
-  plain = later-one g.plain h e;
+  plain = later_one g.plain h e;
 }

@@ -9,22 +9,22 @@ use lib.ListN.{length, take, drop, length-drop}
 use lib.Seq.{take-add, length-take-le}
 use borrow.Author.Tests.{eq-eqb, leb-true, leb-false}
 use Rattle.lexis.specs.Text.{if◌then◌else◌, begins}
-use Rattle.lexis.proofs.Seeking.{begins-within}
-use Rattle.meaning.specs.Parts.{only, less-repeats}
+use Rattle.lexis.proofs.Seeking.{begins_within}
+use Rattle.meaning.specs.Parts.{only, less_repeats}
 
 -- ── a text in front of another ──
 
-begins-self : (m : List ℕ) → begins m m ≡ true
-begins-self [] = refl
-begins-self (c ∷ m) = rw (eq-eqb c c refl, begins-self m)
+begins_self : (m : List ℕ) → begins m m ≡ true
+begins_self [] = refl
+begins_self (c ∷ m) = rw (eq-eqb c c refl, begins_self m)
 
-begins-front : (m u v : List ℕ) → length m ≤ length u → begins m (u ++ v) ≡ begins m u
-begins-front [] u v h = refl
-begins-front (c ∷ m) [] v h = let f : ⊥ = omega arith in absurd f
-begins-front (c ∷ m) (b ∷ u) v h = ap (λ (d : Bool). eqb c b && d) (begins-front m u v (omega arith))
+begins_front : (m u v : List ℕ) → length m ≤ length u → begins m (u ++ v) ≡ begins m u
+begins_front [] u v h = refl
+begins_front (c ∷ m) [] v h = let f : ⊥ = omega arith in absurd f
+begins_front (c ∷ m) (b ∷ u) v h = ap (λ (d : Bool). eqb c b && d) (begins_front m u v (omega arith))
 
-begins-short : (m s : List ℕ) → length s < length m → begins m s ≡ false
-begins-short m s h = by (begins m s) (begins-within m s)
+begins_short : (m s : List ℕ) → length s < length m → begins m s ≡ false
+begins_short m s h = by (begins m s) (begins_within m s)
   where
     by : (d : Bool) → (d ≡ true → length m ≤ length s) → d ≡ false
     by true w = let k = w refl in let f : ⊥ = omega arith in absurd f
@@ -45,21 +45,21 @@ module _ (m : List ℕ) where
   -- a part of m is left
   left_over : (k : ℕ) (s : List ℕ) → k < length s → length s < k + length m → only m k s ≡ false
   left_over zero [] h l = let f : ⊥ = omega arith in absurd f
-  left_over zero (b ∷ s) h l = rw (begins-short m (b ∷ s) (omega arith))
+  left_over zero (b ∷ s) h l = rw (begins_short m (b ∷ s) (omega arith))
   left_over (suc k) [] h l = let f : ⊥ = omega arith in absurd f
   left_over (suc k) (b ∷ s) h l = left_over k s (omega arith) (omega arith)
 
   -- v, as long as m, stands at the end
-  only-last : (u v : List ℕ) (k : ℕ) → length v ≡ length m → k < length m → only m k (u ++ v) ≡ only m k u && begins m v
-  only-last [] [] k e h = let f : ⊥ = omega arith in absurd f
-  only-last [] (b ∷ v) zero e h = by (begins m (b ∷ v)) (ap (λ (k : ℕ). only m k v) (omega arith) ∙ passed v)
+  only_last : (u v : List ℕ) (k : ℕ) → length v ≡ length m → k < length m → only m k (u ++ v) ≡ only m k u && begins m v
+  only_last [] [] k e h = let f : ⊥ = omega arith in absurd f
+  only_last [] (b ∷ v) zero e h = by (begins m (b ∷ v)) (ap (λ (k : ℕ). only m k v) (omega arith) ∙ passed v)
     where
       by : (d : Bool) → only m (length m - 1) v ≡ true → (if d then only m (length m - 1) v else false) ≡ d
       by true p = p
       by false p = refl
-  only-last [] (b ∷ v) (suc k) e h = left_over k v (omega arith) (omega arith)
-  only-last (b ∷ u) v (suc k) e h = only-last u v k e (omega arith)
-  only-last (b ∷ u) v zero e h = by (leb (length m) (suc (length u))) (leb-true _ _) (leb-false _ _) (only-last u v (length m - 1) e (omega arith))
+  only_last [] (b ∷ v) (suc k) e h = left_over k v (omega arith) (omega arith)
+  only_last (b ∷ u) v (suc k) e h = only_last u v k e (omega arith)
+  only_last (b ∷ u) v zero e h = by (leb (length m) (suc (length u))) (leb-true _ _) (leb-false _ _) (only_last u v (length m - 1) e (omega arith))
     where
       same : (d x y z : Bool) → z ≡ x && y → (if d then z else false) ≡ (if d then x else false) && y
       same true x y z p = p
@@ -71,41 +71,41 @@ module _ (m : List ℕ) where
 
       by : (t : Bool) → (t ≡ true → length m ≤ suc (length u)) → (t ≡ false → suc (length u) < length m)
           → only m (length m - 1) (u ++ v) ≡ only m (length m - 1) u && begins m v → only m 0 (b ∷ u ++ v) ≡ only m 0 (b ∷ u) && begins m v
-      by true p q i = rw (begins-front m (b ∷ u) v (p refl)) (same (begins m (b ∷ u)) (only m (length m - 1) u) (begins m v) (only m (length m - 1) (u ++ v)) i)
-      by false p q i = let l = q refl in rw (begins-short m (b ∷ u) l, i, too_short (length m - 1) u (omega arith)) (neither (begins m (b ∷ u ++ v)))
+      by true p q i = rw (begins_front m (b ∷ u) v (p refl)) (same (begins m (b ∷ u)) (only m (length m - 1) u) (begins m v) (only m (length m - 1) (u ++ v)) i)
+      by false p q i = let l = q refl in rw (begins_short m (b ∷ u) l, i, too_short (length m - 1) u (omega arith)) (neither (begins m (b ∷ u ++ v)))
 
   -- ── for callers ──
 
-  pub repeats-within : (s : List ℕ) → length (less-repeats m s) ≤ length s
-  repeats-within [] = omega arith
-  repeats-within (b ∷ s) = by (only m 0 (b ∷ s)) (repeats-within s)
+  pub repeats_within : (s : List ℕ) → length (less_repeats m s) ≤ length s
+  repeats_within [] = omega arith
+  repeats_within (b ∷ s) = by (only m 0 (b ∷ s)) (repeats_within s)
     where
-      by : (d : Bool) → length (less-repeats m s) ≤ length s → length (if d then [] else b ∷ less-repeats m s) ≤ suc (length s)
+      by : (d : Bool) → length (less_repeats m s) ≤ length s → length (if d then [] else b ∷ less_repeats m s) ≤ suc (length s)
       by true h = omega arith
       by false h = omega arith
 
-  pub repeats-short : (s : List ℕ) → length s < length m → less-repeats m s ≡ s
-  repeats-short [] h = refl
-  repeats-short (b ∷ s) h = rw (left_over 0 (b ∷ s) (omega arith) (omega arith), repeats-short s (omega arith))
+  pub repeats_short : (s : List ℕ) → length s < length m → less_repeats m s ≡ s
+  repeats_short [] h = refl
+  repeats_short (b ∷ s) h = rw (left_over 0 (b ∷ s) (omega arith) (omega arith), repeats_short s (omega arith))
 
   module _ (h : 0 < length m) where
     -- a part at the end, as long as m
-    pub repeats-last : (u v : List ℕ) → length v ≡ length m → less-repeats m (u ++ v) ≡ if begins m v then less-repeats m u else u ++ v
-    repeats-last [] [] e = let f : ⊥ = omega arith in absurd f
-    repeats-last [] (b ∷ v) e = rw (only-last [] (b ∷ v) 0 e h, repeats-short v (omega arith))
-    repeats-last (b ∷ u) v e = rw (only-last (b ∷ u) v 0 e h, repeats-last u v e) (by (only m 0 (b ∷ u)) (begins m v))
+    pub repeats_last : (u v : List ℕ) → length v ≡ length m → less_repeats m (u ++ v) ≡ if begins m v then less_repeats m u else u ++ v
+    repeats_last [] [] e = let f : ⊥ = omega arith in absurd f
+    repeats_last [] (b ∷ v) e = rw (only_last [] (b ∷ v) 0 e h, repeats_short v (omega arith))
+    repeats_last (b ∷ u) v e = rw (only_last (b ∷ u) v 0 e h, repeats_last u v e) (by (only m 0 (b ∷ u)) (begins m v))
       where
-        by : (x d : Bool) → (if x && d then [] else b ∷ (if d then less-repeats m u else u ++ v)) ≡ if d then (if x then [] else b ∷ less-repeats m u) else b ∷ u ++ v
+        by : (x d : Bool) → (if x && d then [] else b ∷ (if d then less_repeats m u else u ++ v)) ≡ if d then (if x then [] else b ∷ less_repeats m u) else b ∷ u ++ v
         by true true = refl
         by true false = refl
         by false true = refl
         by false false = refl
 
-    pub repeats-dropped : (u : List ℕ) → less-repeats m (u ++ m) ≡ less-repeats m u
-    repeats-dropped u = repeats-last u m refl ∙ rw (begins-self m)
+    pub repeats_dropped : (u : List ℕ) → less_repeats m (u ++ m) ≡ less_repeats m u
+    repeats_dropped u = repeats_last u m refl ∙ rw (begins_self m)
 
-    pub repeats-kept : (u v : List ℕ) → length v ≡ length m → begins m v ≡ false → less-repeats m (u ++ v) ≡ u ++ v
-    repeats-kept u v e n = repeats-last u v e ∙ rw n
+    pub repeats_kept : (u v : List ℕ) → length v ≡ length m → begins m v ≡ false → less_repeats m (u ++ v) ≡ u ++ v
+    repeats_kept u v e n = repeats_last u v e ∙ rw n
 
   -- ── the beginning of s up to e, by the part before e that is as long as m ──
 
@@ -115,18 +115,18 @@ module _ (m : List ℕ) where
     ending = take (e - (e - length m)) (drop (e - length m) s)
 
     module _ (h : 0 < length m) (l : length m ≤ e) where
-      by-ending : less-repeats m (take e s) ≡ if begins m ending then less-repeats m (take (e - length m) s) else take e s
-      by-ending =
+      by_ending : less_repeats m (take e s) ≡ if begins m ending then less_repeats m (take (e - length m) s) else take e s
+      by_ending =
           let n : e ≡ (e - length m) + (e - (e - length m)) = omega arith in
           let p : take e s ≡ take (e - length m) s ++ ending = ap (λ (n : ℕ). take n s) n ∙ take-add (e - length m) (e - (e - length m)) s in
           let w : e - (e - length m) ≤ length (drop (e - length m) s) = rw length-drop (omega arith) in
-          rw p (repeats-last h (take (e - length m) s) ending (length-take-le (e - (e - length m)) (drop (e - length m) s) w ∙ omega arith))
+          rw p (repeats_last h (take (e - length m) s) ending (length-take-le (e - (e - length m)) (drop (e - length m) s) w ∙ omega arith))
 
-      pub end_step : begins m ending ≡ true → less-repeats m (take e s) ≡ less-repeats m (take (e - length m) s)
-      end_step t = by-ending ∙ rw t
+      pub end_step : begins m ending ≡ true → less_repeats m (take e s) ≡ less_repeats m (take (e - length m) s)
+      end_step t = by_ending ∙ rw t
 
-      pub end-stop : begins m ending ≡ false → less-repeats m (take e s) ≡ take e s
-      end-stop t = by-ending ∙ rw t
+      pub end_stop : begins m ending ≡ false → less_repeats m (take e s) ≡ take e s
+      end_stop t = by_ending ∙ rw t
 
-    pub end_short : e < length m → less-repeats m (take e s) ≡ take e s
-    end_short l = repeats-short (take e s) (omega (arith, length-take-le e s k))
+    pub end_short : e < length m → less_repeats m (take e s) ≡ take e s
+    end_short l = repeats_short (take e s) (omega (arith, length-take-le e s k))

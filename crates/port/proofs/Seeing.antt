@@ -12,7 +12,7 @@ use lib.Dec.{eqb, ltb}
 use lib.ListN.{length, take, drop, get_or, length-take}
 use lib.Seq.{get_or-drop, take_all}
 use Rattle.lexis.specs.Text.{Text, if◌then◌else◌, begins, after, Cut, nowhere, at, later, cut, place, some_of}
-use Rattle.lexis.proofs.Seeking.{never, right, shifted, unshifted, hit, cut-within}
+use Rattle.lexis.proofs.Seeking.{never, right, shifted, unshifted, hit, cut_within}
 use Rattle.lexis.proofs.Passing.{one_later, grown}
 use Rattle.port.specs.Seen.{seen}
 
@@ -128,7 +128,7 @@ kept p (b ∷ s) (suc k) i l e = by (begins p (b ∷ take k s)) refl e (kept p s
     by false g e f =
         let q = inner (cut p (take k s)) e in
         let z = positive (cut p (take k s)) e in
-        let w = cut-within p (take k s) (i - 1) q in
+        let w = cut_within p (take k s) (i - 1) q in
         let t = length-take k s in
         ap (by_front p b (take (suc k) s)) (fronts p (b ∷ s) (suc k) (λ x. let f : ⊥ = omega arith in absurd f) ∙ g)
         ∙ one_later b (cut p (take (suc k) s)) ∙ ap (shifted 1) (f (i - 1) l q) ∙ ap some (omega arith)

@@ -11,13 +11,13 @@ use lib.Dec.{eqb, ltb}
 use lib.ListN.{length, take, drop, get_or, length-take, length-drop}
 use Rattle.lexis.specs.Text.{Text, if◌then◌else◌, begins, cut, place, some_of, until}
 use Rattle.lexis.proofs.Lists.{rest, view}
-use Rattle.lexis.proofs.Seeking.{nowhere-short, cut-within}
+use Rattle.lexis.proofs.Seeking.{nowhere_short, cut_within}
 use Rattle.port.specs.Seen.{seen, told, Sight, key}
 use Rattle.port.specs.Keys.{Spot}
 use Rattle.port.proofs.Seeing as S
 
-pub told-some : (n i : ℕ) → i < n → told n i ≡ some i
-told-some n i h = rw (lt-ltb i n h)
+pub told_some : (n i : ℕ) → i < n → told n i ≡ some i
+told_some n i h = rw (lt-ltb i n h)
 
 pub told_none : (n i : ℕ) → n ≤ i → told n i ≡ none
 told_none n i h = rw (le-ltb i n h)
@@ -29,8 +29,8 @@ told_is n i {j} e = by (ltb i n) e
     by true e = cc
     by false e = let z : ◌≡◌ {A = ℕ} 0 1 = cc in let f : ⊥ = omega arith in absurd f
 
-pub told-none-is : (n i : ℕ) → told n i ≡ none → n ≤ i
-told-none-is n i e = by (ltb i n) (ltb-false i n) e
+pub told_none_is : (n i : ℕ) → told n i ≡ none → n ≤ i
+told_none_is n i e = by (ltb i n) (ltb-false i n) e
   where
     by : (d : Bool) → (d ≡ false → n ≤ i) → (if d then some i else none) ≡ none → n ≤ i
     by true f e = let z : ◌≡◌ {A = ℕ} 0 1 = cc in let f : ⊥ = omega arith in absurd f
@@ -38,24 +38,24 @@ told-none-is n i e = by (ltb i n) (ltb-false i n) e
 
 -- a place in a text that is no longer than N is one below N
 pub narrow : (N n : ℕ) (p c : Text) → told N n ≡ place (cut p c) → 0 < length p → length c ≤ N → told (length c) n ≡ place (cut p c)
-narrow N n p c e l h = by (place (cut p c)) e (λ k q. cut-within p c k q)
+narrow N n p c e l h = by (place (cut p c)) e (λ k q. cut_within p c k q)
   where
     by : (o : Option ℕ) → told N n ≡ o → ((k : ℕ) → o ≡ some k → k + length p ≤ length c) → told (length c) n ≡ o
-    by none e f = told_none (length c) n (let g = told-none-is N n e in omega arith)
-    by (some k) e f = let z = told_is N n e in let w = f k refl in told-some (length c) n (omega arith) ∙ ap some z
+    by none e f = told_none (length c) n (let g = told_none_is N n e in omega arith)
+    by (some k) e f = let z = told_is N n e in let w = f k refl in told_some (length c) n (omega arith) ∙ ap some z
 
 -- ── one keyword, sighted ──
 
 module _ {p : Text} {m : ℕ} (h : m < length p) where
   pub unseen : (s : Text) → Sight p m s 0 (length s)
-  unseen s = record { is = told_none (length s) (length s) (omega arith) ∙ sym (nowhere-short p (take (0 + m) s) (let l = length-take (0 + m) s in omega arith)) }
+  unseen s = record { is = told_none (length s) (length s) (omega arith) ∙ sym (nowhere_short p (take (0 + m) s) (let l = length-take (0 + m) s in omega arith)) }
 
   module _ {s : Text} {i was : ℕ} (e : Sight p m s i was) where
     pub already : was < length s → Sight p m s (i + 1) was
-    already l = record { is = told-some (length s) was l ∙ sym (S.stays p s (length p - m - 1) m (omega arith) i was (sym e.is ∙ told-some (length s) was l)) }
+    already l = record { is = told_some (length s) was l ∙ sym (S.stays p s (length p - m - 1) m (omega arith) i was (sym e.is ∙ told_some (length s) was l)) }
 
-    pub too-early : i < length p - m - 1 → Sight p m s (i + 1) was
-    too-early l = record { is = e.is ∙ sym (S.early p s (length p - m - 1) m (omega arith) i l) }
+    pub too_early : i < length p - m - 1 → Sight p m s (i + 1) was
+    too_early l = record { is = e.is ∙ sym (S.early p s (length p - m - 1) m (omega arith) i l) }
 
     module _ (l : length p - m - 1 ≤ i) {d : Bool} (g : d ≡ begins p (take (length s - (i - (length p - m - 1))) (drop (i - (length p - m - 1)) s))) where
       stood : begins p (drop (i - (length p - m - 1)) s) ≡ d
@@ -63,7 +63,7 @@ module _ {p : Text} {m : ℕ} (h : m < length p) where
 
       pub there : length s ≤ was → i < length s → d ≡ true → Sight p m s (i + 1) (i - (length p - m - 1))
       there w k t = record {
-        is = told-some (length s) (i - (length p - m - 1)) (omega arith)
+        is = told_some (length s) (i - (length p - m - 1)) (omega arith)
             ∙ sym (S.sighted p s (length p - m - 1) m (omega arith) i l (sym e.is ∙ told_none (length s) was w) (stood ∙ t));
       }
 

@@ -13,7 +13,7 @@ use lib.ListN.{length, take, drop, get_or, length-drop}
 use lib.Seq.{get_or-drop}
 use Rattle.lexis.specs.Text.{if◌then◌else◌, begins, cut, place, until}
 use Rattle.lexis.proofs.Lists.{rest}
-use Rattle.lexis.proofs.Seeking.{right, shifted, hit, miss, gone, begins-within}
+use Rattle.lexis.proofs.Seeking.{right, shifted, hit, miss, gone, begins_within}
 use Rattle.port.proofs.Removal.{sought}
 
 -- ── bytes before the first x, and there ──
@@ -47,8 +47,8 @@ module _ (x : ℕ) (s : List ℕ) (i : ℕ) {e : ℕ} (k : e ≡ i + length (unt
       let n : i + (q - i) ≡ q = omega arith in
       before x (drop i s) (q - i) (omega arith) (get_or-drop i s (q - i) 0 ∙ ap (λ (m : ℕ). get_or s m 0) n ∙ g)
 
-  stands-there : e < length s → get_or s e 0 ≡ x
-  stands-there h = let d = length-drop i s in
+  stands_there : e < length s → get_or s e 0 ≡ x
+  stands_there h = let d = length-drop i s in
       ap (λ (m : ℕ). get_or s m 0) k ∙ sym (get_or-drop i s (length (until (eqb x) (drop i s))) 0) ∙ there x (drop i s) (omega arith)
 
 -- ── a text that stands at a place ──
@@ -67,8 +67,8 @@ refuted : (d : Bool) → (d ≡ true → ⊥) → d ≡ false
 refuted true f = absurd (f refl)
 refuted false f = refl
 
-not-less : {m n : ℕ} → (n < m → ⊥) → m ≤ n
-not-less f = omega arith
+not_less : {m n : ℕ} → (n < m → ⊥) → m ≤ n
+not_less f = omega arith
 
 module _ (m s : List ℕ) where
   -- it stands nowhere in the next k places
@@ -81,22 +81,22 @@ module _ (m s : List ℕ) where
       ∙ (let n : i + 1 + k ≡ i + suc k = omega arith in ap (λ (n : ℕ). shifted n (place (cut m (drop n s)))) n)
 
   -- up to the place e
-  skip-to : (i e : ℕ) → i ≤ e → e ≤ length s → ((p : ℕ) → i ≤ p → p < e → begins m (drop p s) ≡ true → ⊥)
+  skip_to : (i e : ℕ) → i ≤ e → e ≤ length s → ((p : ℕ) → i ≤ p → p < e → begins m (drop p s) ≡ true → ⊥)
       → shifted i (place (cut m (drop i s))) ≡ shifted e (place (cut m (drop e s)))
-  skip-to i e l h f =
+  skip_to i e l h f =
       let n : i + (e - i) ≡ e = omega arith in
       skip i (e - i) (omega arith) (λ p a b. f p a (omega arith)) ∙ ap (λ (n : ℕ). shifted n (place (cut m (drop n s)))) n
 
-  nowhere-from : (i : ℕ) → i ≤ length s → ((p : ℕ) → i ≤ p → begins m (drop p s) ≡ true → ⊥) → shifted i (place (cut m (drop i s))) ≡ none
-  nowhere-from i l f =
-      skip-to i (length s) l (omega arith) (λ p a b. f p a)
+  nowhere_from : (i : ℕ) → i ≤ length s → ((p : ℕ) → i ≤ p → begins m (drop p s) ≡ true → ⊥) → shifted i (place (cut m (drop i s))) ≡ none
+  nowhere_from i l f =
+      skip_to i (length s) l (omega arith) (λ p a b. f p a)
       ∙ gone m s (length s) (omega arith) (refuted (begins m (drop (length s) s)) (f (length s) l))
 
 -- ── the mark, from the place i on: h is the place of the next `#`, e that of the next `>` behind it ──
 
 module _ (s : List ℕ) (p : ℕ) (g : begins sought (drop p s) ≡ true) where
   inside : p + 27 ≤ length s
-  inside = let a = begins-within sought (drop p s) g in let b = length-drop p s in omega arith
+  inside = let a = begins_within sought (drop p s) g in let b = length-drop p s in omega arith
 
   at_byte : (j : ℕ) → j < 27 → get_or s (p + j) 0 ≡ get_or sought j 0
   at_byte j h = sym (get_or-drop p s j 0) ∙ byte sought (drop p s) j g h
@@ -104,36 +104,36 @@ module _ (s : List ℕ) (p : ℕ) (g : begins sought (drop p s) ≡ true) where
 module _ (s : List ℕ) (i : ℕ) {h : ℕ} (l : i ≤ length s) (a : h ≡ i + length (until (eqb 35) (drop i s))) where
   -- its `#` stands at h or behind
   behind : (p : ℕ) → i ≤ p → begins sought (drop p s) ≡ true → h ≤ p + 2
-  behind p k g = not-less (λ b. none_before 35 s i a (p + 2) (omega arith) b (at_byte s p g 2 (omega arith)))
+  behind p k g = not_less (λ b. none_before 35 s i a (p + 2) (omega arith) b (at_byte s p g 2 (omega arith)))
 
-  pub no-hash : length s ≤ h → shifted i (place (cut sought (drop i s))) ≡ none
-  no-hash k = nowhere-from sought s i l (λ p b g. let x = behind p b g in let y = inside s p g in omega arith)
+  pub no_hash : length s ≤ h → shifted i (place (cut sought (drop i s))) ≡ none
+  no_hash k = nowhere_from sought s i l (λ p b g. let x = behind p b g in let y = inside s p g in omega arith)
 
   module _ {e : ℕ} (b : e ≡ h + length (until (eqb 62) (drop h s))) where
     -- it ends at e or behind
     ends : (p : ℕ) → i ≤ p → begins sought (drop p s) ≡ true → e ≤ p + 26
-    ends p k g = not-less (λ c. none_before 62 s h b (p + 26) (let x = behind p k g in omega arith) c (at_byte s p g 26 (omega arith)))
+    ends p k g = not_less (λ c. none_before 62 s h b (p + 26) (let x = behind p k g in omega arith) c (at_byte s p g 26 (omega arith)))
 
     pub no_end : length s ≤ e → shifted i (place (cut sought (drop i s))) ≡ none
-    no_end k = nowhere-from sought s i l (λ p b g. let x = ends p b g in let y = inside s p g in omega arith)
+    no_end k = nowhere_from sought s i l (λ p b g. let x = ends p b g in let y = inside s p g in omega arith)
 
     module _ (k : e < length s) where
       -- one that begins up to e ends there
-      at-end : (p : ℕ) → i ≤ p → p ≤ e → begins sought (drop p s) ≡ true → p + 26 ≤ e
-      at-end p m n g = not-less (λ c. before 62 sought (e - p) (omega arith) (
-          let o : p + (e - p) ≡ e = omega arith in sym (at_byte s p g (e - p) (omega arith)) ∙ ap (λ (n : ℕ). get_or s n 0) o ∙ stands-there 62 s h b k))
+      at_end : (p : ℕ) → i ≤ p → p ≤ e → begins sought (drop p s) ≡ true → p + 26 ≤ e
+      at_end p m n g = not_less (λ c. before 62 sought (e - p) (omega arith) (
+          let o : p + (e - p) ≡ e = omega arith in sym (at_byte s p g (e - p) (omega arith)) ∙ ap (λ (n : ℕ). get_or s n 0) o ∙ stands_there 62 s h b k))
 
       -- whether it ends there, as the code asks: of the part from 26 bytes before on
       abbrev pub Ending : Bool → Type 0
       Ending d = d ≡ begins sought (take (length s - (e - 26)) (drop (e - 26) s))
 
-      pub ends-here : i + 26 ≤ e → Ending true → shifted i (place (cut sought (drop i s))) ≡ some (e - 26)
-      ends-here m g =
-          skip-to sought s i (e - 26) (omega arith) (omega arith) (λ p b c d. let x = ends p b d in omega arith)
+      pub ends_here : i + 26 ≤ e → Ending true → shifted i (place (cut sought (drop i s))) ≡ some (e - 26)
+      ends_here m g =
+          skip_to sought s i (e - 26) (omega arith) (omega arith) (λ p b c d. let x = ends p b d in omega arith)
           ∙ hit sought s (e - 26) (sym (g ∙ ap (begins sought) (rest s (e - 26))))
 
       -- none ends there
       pub onward : (i + 26 ≤ e → Ending false) → shifted i (place (cut sought (drop i s))) ≡ shifted (e + 1) (place (cut sought (drop (e + 1) s)))
-      onward f = skip-to sought s i (e + 1) (omega arith) (omega arith) (λ p b c d.
-          let x = ends p b d in let y = at-end p b (omega arith) d in let o : p ≡ e - 26 = omega arith in
+      onward f = skip_to sought s i (e + 1) (omega arith) (omega arith) (λ p b c d.
+          let x = ends p b d in let y = at_end p b (omega arith) d in let o : p ≡ e - 26 = omega arith in
           false≢true (f (omega arith) ∙ ap (begins sought) (rest s (e - 26)) ∙ ap (λ (n : ℕ). begins sought (drop n s)) (sym o) ∙ d))

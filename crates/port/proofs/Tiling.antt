@@ -7,77 +7,77 @@ use mathlib.Core.Option.{Option, none, some}
 use mathlib.Core.Path.{◌≡◌, sym, ap, ◌∙◌}
 use lib.Dec.{eqb}
 use lib.ListN.{length, take, drop}
-use Rattle.lexis.specs.Text.{Text, bytes, trim, less-trailing, split, Cut, nowhere, at, cut, place, spot}
-use Rattle.scalars.specs.Names.{scalar-name, said}
+use Rattle.lexis.specs.Text.{Text, bytes, trim, less_trailing, split, Cut, nowhere, at, cut, place, spot}
+use Rattle.scalars.specs.Names.{scalar_name, said}
 use Rattle.scalars.specs.declared.scalar.Scalar.{Scalar}
 use Rattle.scalars.specs.declared.scalar.Named.{Named}
 use Rattle.lexis.specs.declared.text.Found.{Found}
 use Rattle.lexis.specs.declared.text.Found.TheVariants.{At, Nowhere}
 use Rattle.lexis.proofs.Lists.{rest}
 use Rattle.meaning.specs.Found.{Clause, unused}
-use Rattle.meaning.specs.Parts.{each, less-repeats}
-use Rattle.meaning.specs.Tile.{dimensions, tile-of, before-pointer, pointee, tile-by, tile}
+use Rattle.meaning.specs.Parts.{each, less_repeats}
+use Rattle.meaning.specs.Tile.{dimensions, tile_of, before_pointer, pointee, tile_by, tile}
 use Rattle.meaning.specs.declared.Kind.TheVariants as K
 use Rattle.lists.specs.Laid.{Laid, laid}
 use Rattle.port.specs.Carried.{Carried, carried, fell}
-use Rattle.port.proofs.Making.{sound-list}
-use Rattle.port.proofs.Building.{bare, tile-is}
-use Rattle.port.proofs.Cutting.{cut-found, cut-none}
+use Rattle.port.proofs.Making.{sound_list}
+use Rattle.port.proofs.Building.{bare, tile_is}
+use Rattle.port.proofs.Cutting.{cut_found, cut_none}
 
 -- ── by the element ──
 
 -- x is what the code answers
 module _ {x : Option Carried} (p : Bool) (shape : Clause) {o : Option Scalar} where
-  pub tile-some : {a b : Laid} {e : Scalar} → x ≡ some (bare K.Tile e p a b) → o ≡ some e → a ≡ laid 8 shape → b ≡ laid 8 unused
-      → x ≡ each (carried 8) (each (tile-of p shape) o)
-  tile-some {e = e} d n r u = d ∙ ap some (tile-is e p shape r u) ∙ sym (ap (λ (q : Option Scalar). each (carried 8) (each (tile-of p shape) q)) n)
+  pub tile_some : {a b : Laid} {e : Scalar} → x ≡ some (bare K.Tile e p a b) → o ≡ some e → a ≡ laid 8 shape → b ≡ laid 8 unused
+      → x ≡ each (carried 8) (each (tile_of p shape) o)
+  tile_some {e = e} d n r u = d ∙ ap some (tile_is e p shape r u) ∙ sym (ap (λ (q : Option Scalar). each (carried 8) (each (tile_of p shape) q)) n)
 
-  pub tile-none : x ≡ none → o ≡ none → x ≡ each (carried 8) (each (tile-of p shape) o)
-  tile-none d n = d ∙ sym (ap (λ (q : Option Scalar). each (carried 8) (each (tile-of p shape) q)) n)
+  pub tile_none : x ≡ none → o ≡ none → x ≡ each (carried 8) (each (tile_of p shape) o)
+  tile_none d n = d ∙ sym (ap (λ (q : Option Scalar). each (carried 8) (each (tile_of p shape) q)) n)
 
 -- ── by the first `ptr<` ──
 
 module _ (s : Text) where
-  pub tile-nowhere : cut (bytes "ptr<") s ≡ nowhere → each (carried 8) (tile-by s nowhere) ≡ each (carried 8) (tile s)
+  pub tile_nowhere : cut (bytes "ptr<") s ≡ nowhere → each (carried 8) (tile_by s nowhere) ≡ each (carried 8) (tile s)
   unfolding tile
-  tile-nowhere e = ap (λ (c : Cut). each (carried 8) (tile-by s c)) (sym e)
+  tile_nowhere e = ap (λ (c : Cut). each (carried 8) (tile_by s c)) (sym e)
 
-  pub tile-at : (i : ℕ) → cut (bytes "ptr<") s ≡ at (take i s) (drop (i + 4) s)
-      → each (carried 8) (tile-by s (at (take i s) (take (length s - (i + 4)) (drop (i + 4) s)))) ≡ each (carried 8) (tile s)
+  pub tile_at : (i : ℕ) → cut (bytes "ptr<") s ≡ at (take i s) (drop (i + 4) s)
+      → each (carried 8) (tile_by s (at (take i s) (take (length s - (i + 4)) (drop (i + 4) s)))) ≡ each (carried 8) (tile s)
   unfolding tile
-  tile-at i e = ap (λ (t : Text). each (carried 8) (tile-by s (at (take i s) t))) (rest s (i + 4)) ∙ ap (λ (c : Cut). each (carried 8) (tile-by s c)) (sym e)
+  tile_at i e = ap (λ (t : Text). each (carried 8) (tile_by s (at (take i s) t))) (rest s (i + 4)) ∙ ap (λ (c : Cut). each (carried 8) (tile_by s c)) (sym e)
 
 -- ── a pointer ──
 
 module _ {f : Found} (t : Text) (e : spot f ≡ place (cut (bytes ">") t)) where
-  pub pointee-is : {i : ℕ} {n m : Named} → f ≡ At i → said n ≡ scalar-name (take i t) → n ≡ m → pointee (cut (bytes ">") t) ≡ said m
-  pointee-is q d r = ap pointee (cut-found (bytes ">") t e q) ∙ sym d ∙ ap said r
+  pub pointee_is : {i : ℕ} {n m : Named} → f ≡ At i → said n ≡ scalar_name (take i t) → n ≡ m → pointee (cut (bytes ">") t) ≡ said m
+  pointee_is q d r = ap pointee (cut_found (bytes ">") t e q) ∙ sym d ∙ ap said r
 
-  pub pointee-none : f ≡ Nowhere → pointee (cut (bytes ">") t) ≡ none
-  pointee-none q = ap pointee (cut-none (bytes ">") t e q)
+  pub pointee_none : f ≡ Nowhere → pointee (cut (bytes ">") t) ≡ none
+  pointee_none q = ap pointee (cut_none (bytes ">") t e q)
 
 -- the dimensions before it, as they are read of s
 abbrev pub Sized : Laid → Text → Type 0
-Sized l s = l ≡ laid 8 (dimensions (before-pointer (less-repeats (bytes "!cuda_tile.") (trim s))))
+Sized l s = l ≡ laid 8 (dimensions (before_pointer (less_repeats (bytes "!cuda_tile.") (trim s))))
 
-pub sized-sound : {l : Laid} (s : Text) → Sized l s → fell l ≤ l.row.len
-sized-sound s e = sound-list (dimensions (before-pointer (less-repeats (bytes "!cuda_tile.") (trim s)))) e
+pub sized_sound : {l : Laid} (s : Text) → Sized l s → fell l ≤ l.row.len
+sized_sound s e = sound_list (dimensions (before_pointer (less_repeats (bytes "!cuda_tile.") (trim s)))) e
 
 -- t is s trimmed, and u is what is left of it
-module _ {l : Laid} (s t u : Text) (p : t ≡ trim s) (q : u ≡ less-repeats (bytes "!cuda_tile.") t) where
-  whole : l ≡ laid 8 (dimensions (before-pointer u)) → Sized l s
-  whole e = e ∙ ap (λ (v : Text). laid 8 (dimensions (before-pointer v))) (q ∙ ap (less-repeats (bytes "!cuda_tile.")) p)
+module _ {l : Laid} (s t u : Text) (p : t ≡ trim s) (q : u ≡ less_repeats (bytes "!cuda_tile.") t) where
+  whole : l ≡ laid 8 (dimensions (before_pointer u)) → Sized l s
+  whole e = e ∙ ap (λ (v : Text). laid 8 (dimensions (before_pointer v))) (q ∙ ap (less_repeats (bytes "!cuda_tile.")) p)
 
-  pub shape-none : length u ≡ 0 → l ≡ laid 8 unused → Sized l s
-  shape-none z e = whole (by u z)
+  pub shape_none : length u ≡ 0 → l ≡ laid 8 unused → Sized l s
+  shape_none z e = whole (by u z)
     where
-      by : (u : Text) → length u ≡ 0 → l ≡ laid 8 (dimensions (before-pointer u))
+      by : (u : Text) → length u ≡ 0 → l ≡ laid 8 (dimensions (before_pointer u))
       by [] z = e
       by (b ∷ u) z = let f : ⊥ = omega arith in absurd f
 
-  pub shape-some : {v : Text} → (length u ≡ 0 → ⊥) → v ≡ less-trailing (eqb 120) u → l ≡ laid 8 (dimensions (split 120 v)) → Sized l s
-  shape-some {v} n r e = whole (by u n (e ∙ ap (λ (w : Text). laid 8 (dimensions (split 120 w))) r))
+  pub shape_some : {v : Text} → (length u ≡ 0 → ⊥) → v ≡ less_trailing (eqb 120) u → l ≡ laid 8 (dimensions (split 120 v)) → Sized l s
+  shape_some {v} n r e = whole (by u n (e ∙ ap (λ (w : Text). laid 8 (dimensions (split 120 w))) r))
     where
-      by : (u : Text) → (length u ≡ 0 → ⊥) → l ≡ laid 8 (dimensions (split 120 (less-trailing (eqb 120) u))) → l ≡ laid 8 (dimensions (before-pointer u))
+      by : (u : Text) → (length u ≡ 0 → ⊥) → l ≡ laid 8 (dimensions (split 120 (less_trailing (eqb 120) u))) → l ≡ laid 8 (dimensions (before_pointer u))
       by [] n k = absurd (n (omega arith))
       by (b ∷ u) n k = k

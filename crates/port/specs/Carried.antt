@@ -85,8 +85,8 @@ abbrev pub fell : Laid → ℕ
 fell l = l.row.tally.fell
 
 -- what is noted of all lists, by their rows
-unfoldable pub rows-noted : Row → Row → Row → Row → Row → Row → Note
-rows-noted shape strides tile map traversal sparse = record {
+unfoldable pub rows_noted : Row → Row → Row → Row → Row → Row → Note
+rows_noted shape strides tile map traversal sparse = record {
   a = shape.tally.fell + strides.tally.fell;
   b = tile.tally.fell;
   c = map.tally.fell + traversal.tally.fell + sparse.tally.fell;
@@ -94,7 +94,7 @@ rows-noted shape strides tile map traversal sparse = record {
 }
 
 abbrev pub noted : Carried → Note
-noted x = rows-noted x.shape.row x.strides.row x.tile.row x.map.row x.traversal.row x.sparse.row
+noted x = rows_noted x.shape.row x.strides.row x.tile.row x.map.row x.traversal.row x.sparse.row
 
 unfoldable pub recorded : Bool → Carried → Record
 recorded marked x = record {
@@ -117,14 +117,14 @@ recorded marked x = record {
 }
 
 -- no list has over `cap` entries
-unfoldable pub lengths-within : ℕ → Carried → Bool
-lengths-within cap x =
+unfoldable pub lengths_within : ℕ → Carried → Bool
+lengths_within cap x =
     leb x.shape.row.len cap && leb x.strides.row.len cap && leb x.tile.row.len cap && leb x.map.row.len cap && leb x.traversal.row.len cap
 
 abbrev pub answered : Bool → Option Carried → Reading
 answered marked none = O.refused 8 NoType 0
 answered marked (some x) =
-    if lengths-within 8 x then record { refusal = Accepted; place = 0; value = recorded marked x; note = noted x }
+    if lengths_within 8 x then record { refusal = Accepted; place = 0; value = recorded marked x; note = noted x }
     else O.refused 8 TooMany 0
 
 -- no more entries fell back than there are, of one sparse dimension: within the capacity the counts add up
@@ -145,12 +145,12 @@ pub record Tensored : Type 0 where
 abbrev pub tensored : ℕ → T.Tensor → Tensored
 tensored cap v = record { element = v.element; shape = laid cap v.shape; strides = laid cap v.strides }
 
-abbrev pub tensor-parts : Tensor → Tensored
-tensor-parts t = record { element = t.element; shape = list64 t.shape; strides = list64 t.strides }
+abbrev pub tensor_parts : Tensor → Tensored
+tensor_parts t = record { element = t.element; shape = list64 t.shape; strides = list64 t.strides }
 
 -- a record, so that what stands under it can be inferred
-pub record Tensor-is (r : Tensor) (o : Option T.Tensor) : Type 0 where
-  pub is : (if r.found then some (tensor-parts r) else none) ≡ each (tensored 8) o
+pub record TensorIs (r : Tensor) (o : Option T.Tensor) : Type 0 where
+  pub is : (if r.found then some (tensor_parts r) else none) ≡ each (tensored 8) o
 
 -- ── what the three views share ──
 
@@ -162,24 +162,24 @@ pub record Viewed : Type 0 where
 abbrev pub viewed : ℕ → W.View → Viewed
 viewed cap v = record { tile = laid cap (stands v.tile); tensor = tensored cap v.tensor; padding = v.padding }
 
-abbrev pub view-parts : View → Viewed
-view-parts v = record { tile = list32 v.tile; tensor = tensor-parts v.tensor; padding = v.padding }
+abbrev pub view_parts : View → Viewed
+view_parts v = record { tile = list32 v.tile; tensor = tensor_parts v.tensor; padding = v.padding }
 
-pub record View-is (r : View) (o : Option W.View) : Type 0 where
-  pub is : (if r.found then some (view-parts r) else none) ≡ each (viewed 8) o
+pub record ViewIs (r : View) (o : Option W.View) : Type 0 where
+  pub is : (if r.found then some (view_parts r) else none) ≡ each (viewed 8) o
 
 -- ── the tile shape: what stands between the `tile=(` at a place and `)`, and where what follows begins ──
 
 pub record Tiled (s : Text) (at : ℕ) (r : TileShape) (inside behind : Text) : Type 0 where
   pub found : r.found ≡ true
-  pub tile : list32 r.tile ≡ laid 8 (stands (W.tile-entries inside))
+  pub tile : list32 r.tile ≡ laid 8 (stands (W.tile_entries inside))
   pub onward : drop r.behind s ≡ behind
   pub past : at + 6 ≤ r.behind
   pub fits : r.behind ≤ length s
 
-abbrev pub Tile-is : Text → ℕ → TileShape → Cut → Type 0
-Tile-is s i r nowhere = r.found ≡ false
-Tile-is s i r (at u t) = Tiled s i r u t
+abbrev pub TileIs : Text → ℕ → TileShape → Cut → Type 0
+TileIs s i r nowhere = r.found ≡ false
+TileIs s i r (at u t) = Tiled s i r u t
 
 -- ── a list in brackets, by its place ──
 
@@ -193,15 +193,15 @@ Inside s C.Absent = Unit {0}
 Inside s C.Unclosed = Unit {0}
 Inside s (C.Between a e) = (a ≤ e) × (e ≤ length s)
 
-pub record List-is (s : Text) (r : Closed) (l : W.Listed) : Type 0 where
+pub record ListIs (s : Text) (r : Closed) (l : W.Listed) : Type 0 where
   pub is : listing s r ≡ l
   pub inside : Inside s r
 
 -- the list, or what fills in for it
-abbrev pub list-laid : Laid → W.Listed → Laid
-list-laid own W.absent = own
-list-laid own W.unclosed = own
-list-laid own (W.listed t) = laid 8 (W.entries t)
+abbrev pub list_laid : Laid → W.Listed → Laid
+list_laid own W.absent = own
+list_laid own W.unclosed = own
+list_laid own (W.listed t) = laid 8 (W.entries t)
 
 -- ── a form: whether the one that opens with p applies, how long its content is then, and the places in it ──
 

@@ -2,7 +2,7 @@
 use Rattle.std.specs.Prelude.{List, [], ◌∷◌, drop}
 use Rattle.std.proofs.Math.Option.{Option, none, some}
 use Rattle.lexis.specs.Text.{Text, bytes, if◌then◌else◌, begins}
-use Rattle.scalars.specs.Names.{scalar-name}
+use Rattle.scalars.specs.Names.{scalar_name}
 use Rattle.meaning.specs.Found.{Found, plain}
 use Rattle.meaning.specs.Parts.{each, bracketed}
 use Rattle.meaning.specs.Ordinary.{Form, forms}
@@ -15,7 +15,7 @@ abbrev pub unprefixed : Text → Text
 unprefixed s = if begins (bytes "!cuda_tile.") s then drop 11 s else s
 
 abbrev pub bare : Text → Option Found
-bare s = each (plain K.Scalar) (scalar-name s)
+bare s = each (plain K.Scalar) (scalar_name s)
 
 -- the first form that applies to t decides; where none does, d
 abbrev pub first_of : List Form → Text → Option Found → Option Found

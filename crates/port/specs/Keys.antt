@@ -62,9 +62,9 @@ pub record Contained (s : Text) (r : Scanning) : Type 0 where
   pub places : r.end < length s → Placed (take r.end s) r.places
 
 -- a place is at most n
-abbrev pub At-most : ℕ → Found → Type 0
-At-most n (At i) = i ≤ n
-At-most n Nowhere = Unit {0}
+abbrev pub AtMost : ℕ → Found → Type 0
+AtMost n (At i) = i ≤ n
+AtMost n Nowhere = Unit {0}
 
 -- what follows a place, where there is one
 abbrev pub from : Text → Option ℕ → Option Text

@@ -2,7 +2,7 @@
 ghost use Rattle.std.specs.Prelude.{◌≡◌, ◌+◌, ◌≤◌, ◌<◌, length, drop};
 ghost use Rattle.lexis.specs.Text.{bytes, cut, place, spot};
 ghost use Rattle.meaning.specs.Views.{opened};
-ghost use Rattle.port.specs.Keys.{Later, Placed, At-most, from};
+ghost use Rattle.port.specs.Keys.{Later, Placed, AtMost, from};
 
 use super::keys::Places;
 use lexis::Found;
@@ -26,7 +26,7 @@ fn plain_from(inner: &[u8], tile: usize, plain: usize, behind: usize) -> Found
 // After a prefix anywhere, or after `tensor_view<` past the tile's `)`.
 pub(crate) fn opens(inner: &[u8], r: Places, behind: usize) -> Found
     requires { Placed inner.now r × (r.tile < length inner.now) × (r.tile + 6 ≤ behind) × (behind ≤ length inner.now) }
-    ensures { (opened inner.now (drop behind inner.now) ≡ from inner.now (spot result)) × At-most (length inner.now) result }
+    ensures { (opened inner.now (drop behind inner.now) ≡ from inner.now (spot result)) × AtMost (length inner.now) result }
 {
     let named = r.named;
     if named < inner.len() {

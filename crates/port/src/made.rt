@@ -4,7 +4,7 @@ ghost use Rattle.std.proofs.Math.Option.{some};
 ghost use Rattle.meaning.specs.Found.{unused, plain};
 ghost use Rattle.meaning.specs.declared.Padding.TheVariants.{Absent};
 ghost use Rattle.lists.specs.Laid.{laid, list64, list32};
-ghost use Rattle.port.specs.Carried.{carried, built, fell, lacks, rows-noted, answered, Sound};
+ghost use Rattle.port.specs.Carried.{carried, built, fell, lacks, rows_noted, answered, Sound};
 
 use lists::{List32, List64, Row};
 use meaning::{CAP, Kind, Note, Padding, Reading, Record, Refusal, refuse};
@@ -34,7 +34,7 @@ fn lacks(r: Row) -> usize
 // What is noted of all lists.
 fn noted(shape: Row, strides: Row, tile: Row, map: Row, traversal: Row, sparse: Row) -> Note
     requires { (shape.tally.fell ≤ 8) × (strides.tally.fell ≤ 8) × (map.tally.fell ≤ 8) × (traversal.tally.fell ≤ 8) × (sparse.tally.fell ≤ 8) }
-    ensures { result ≡ rows-noted shape strides tile map traversal sparse }
+    ensures { result ≡ rows_noted shape strides tile map traversal sparse }
 {
     Note {
         a: shape.tally.fell + strides.tally.fell,

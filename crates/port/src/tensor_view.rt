@@ -2,10 +2,10 @@
 ghost use Rattle.std.specs.Prelude.{◌+◌, ◌≤◌, ◌≡◌, length, take, drop};
 ghost use Rattle.std.proofs.Math.Option.{Option, none, some};
 ghost use Rattle.meaning.specs.Parts.{each};
-ghost use Rattle.meaning.specs.Tile.{dimensions, stride-parts, tensor-parts, tensor, tensor-view};
+ghost use Rattle.meaning.specs.Tile.{dimensions, stride_parts, tensor_parts, tensor, tensor_view};
 ghost use Rattle.lists.specs.Laid.{laid, list64};
 ghost use Rattle.port.specs.Keys.{Placed};
-ghost use Rattle.port.specs.Carried.{carried, answered, Tensor-is};
+ghost use Rattle.port.specs.Carried.{carried, answered, TensorIs};
 
 use super::keys::Places;
 use super::made::simple;
@@ -25,7 +25,7 @@ pub struct Tensor {
 // `[shape x]scalar, strides=[strides]`.
 pub(crate) fn parse_tensor(inner: &[u8], k: Places) -> Tensor
     requires { Placed inner.now k }
-    ensures { Tensor-is result (tensor inner.now) }
+    ensures { TensorIs result (tensor inner.now) }
 {
     let i = k.spaced;
     if i < inner.len() {
@@ -41,13 +41,13 @@ pub(crate) fn parse_tensor(inner: &[u8], k: Places) -> Tensor
 // The strides' clause opens with the `n` bytes at `i`.
 fn around(inner: &[u8], i: usize, n: usize) -> Tensor
     requires { i + n ≤ length inner.now }
-    ensures { Tensor-is result (tensor-parts (take i inner.now) (some (drop (i + n) inner.now))) }
+    ensures { TensorIs result (tensor_parts (take i inner.now) (some (drop (i + n) inner.now))) }
 {
     with_strides(&inner[..i], &inner[i + n..])
 }
 
 fn with_strides(s: &[u8], strides: &[u8]) -> Tensor
-    ensures { Tensor-is result (tensor-parts s.now (some strides.now)) }
+    ensures { TensorIs result (tensor_parts s.now (some strides.now)) }
 {
     let f = lists::parse_front(s);
     let last = f.last;
@@ -65,7 +65,7 @@ fn with_strides(s: &[u8], strides: &[u8]) -> Tensor
 
 // Without the clause, one DYNAMIC per dimension.
 fn without_strides(s: &[u8]) -> Tensor
-    ensures { Tensor-is result (tensor-parts s.now none) }
+    ensures { TensorIs result (tensor_parts s.now none) }
 {
     let f = lists::parse_front(s);
     let last = f.last;
@@ -83,7 +83,7 @@ fn without_strides(s: &[u8]) -> Tensor
 
 // All leading `[` and trailing `]` go; split at commas.
 fn parse_strides(s: &[u8]) -> List64
-    ensures { list64 result ≡ laid 8 (dimensions (stride-parts s.now)) }
+    ensures { list64 result ≡ laid 8 (dimensions (stride_parts s.now)) }
 {
     lists::parse_dims(
         lexis::trim_end_matches(lexis::trim_start_matches(s, b'['), b']'),
@@ -92,7 +92,7 @@ fn parse_strides(s: &[u8]) -> List64
 }
 
 pub(crate) fn no_tensor() -> Tensor
-    ensures { Tensor-is result none }
+    ensures { TensorIs result none }
 {
     let l = lists::none64();
     Tensor {
@@ -105,7 +105,7 @@ pub(crate) fn no_tensor() -> Tensor
 
 pub(crate) fn parse_tensor_view(inner: &[u8], k: Places, marked: bool) -> Reading
     requires { Placed inner.now k }
-    ensures { result ≡ answered marked (each (carried 8) (tensor-view inner.now)) }
+    ensures { result ≡ answered marked (each (carried 8) (tensor_view inner.now)) }
 {
     let t = parse_tensor(inner, k);
     if !t.found {

@@ -2,8 +2,8 @@
 ghost use Rattle.std.specs.Prelude.{◌≡◌, true, false};
 ghost use Rattle.std.proofs.Math.Option.{Option};
 ghost use Rattle.lexis.specs.Text.{bytes, trim, cut};
-ghost use Rattle.meaning.specs.Parts.{each, less-repeats};
-ghost use Rattle.meaning.specs.Tile.{dimensions, before-pointer, pointee, tile-of, tile-by, tile};
+ghost use Rattle.meaning.specs.Parts.{each, less_repeats};
+ghost use Rattle.meaning.specs.Tile.{dimensions, before_pointer, pointee, tile_of, tile_by, tile};
 ghost use Rattle.lexis.specs.Text.{Cut, nowhere, at};
 ghost use Rattle.lists.specs.Laid.{laid, list64};
 ghost use Rattle.port.specs.Keys.{Placed};
@@ -30,7 +30,7 @@ pub(crate) fn parse_tile(inner: &[u8], k: Places, marked: bool) -> Reading
 }
 
 fn pointer_tile(before: &[u8], after: &[u8], marked: bool) -> Reading
-    ensures { result ≡ answered marked (each (carried 8) (each (tile-of true (dimensions (before-pointer (less-repeats (bytes "!cuda_tile.") (trim before.now))))) (pointee (cut (bytes ">") after.now)))) }
+    ensures { result ≡ answered marked (each (carried 8) (each (tile_of true (dimensions (before_pointer (less_repeats (bytes "!cuda_tile.") (trim before.now))))) (pointee (cut (bytes ">") after.now)))) }
 {
     match lexis::find(after, b">") {
         Found::At(n) => match scalars::parse_scalar(&after[..n]) {
@@ -50,7 +50,7 @@ fn pointer_tile(before: &[u8], after: &[u8], marked: bool) -> Reading
 
 // The dimensions before a pointer: none if nothing is left there.
 fn pointer_shape(before: &[u8]) -> List64
-    ensures { list64 result ≡ laid 8 (dimensions (before-pointer (less-repeats (bytes "!cuda_tile.") (trim before.now)))) }
+    ensures { list64 result ≡ laid 8 (dimensions (before_pointer (less_repeats (bytes "!cuda_tile.") (trim before.now)))) }
 {
     let b = trim_end_repeats(lexis::trim(before), b"!cuda_tile.");
     if b.len() == 0 {
@@ -60,7 +60,7 @@ fn pointer_shape(before: &[u8]) -> List64
 }
 
 fn scalar_tile(inner: &[u8], marked: bool) -> Reading
-    ensures { result ≡ answered marked (each (carried 8) (tile-by inner.now nowhere)) }
+    ensures { result ≡ answered marked (each (carried 8) (tile_by inner.now nowhere)) }
 {
     let f = lists::parse_front(inner);
     let last = f.last;

@@ -5,11 +5,11 @@ ghost use Rattle.lexis.specs.Text.{bytes, cut};
 ghost use Rattle.meaning.specs.Found.{stands};
 ghost use Rattle.meaning.specs.Parts.{each, between, close};
 ghost use Rattle.meaning.specs.Tile.{tensor};
-ghost use Rattle.meaning.specs.Views.{tile-entries, opened, enclosed, inner-by, padding, view, list-after, sparse-by};
-ghost use Rattle.meaning.specs.Views.{partition-view, gather-scatter-view, strided-view};
+ghost use Rattle.meaning.specs.Views.{tile_entries, opened, enclosed, inner_by, padding, view, list_after, sparse_by};
+ghost use Rattle.meaning.specs.Views.{partition_view, gather_scatter_view, strided_view};
 ghost use Rattle.lists.specs.Laid.{laid, list32, list64};
 ghost use Rattle.port.specs.Keys.{Spot, Placed};
-ghost use Rattle.port.specs.Carried.{carried, built, answered, Sound, Tensor-is, View-is, Tile-is, List-is, list-laid};
+ghost use Rattle.port.specs.Carried.{carried, built, answered, Sound, TensorIs, ViewIs, TileIs, ListIs, list_laid};
 
 use super::inner::opens;
 use super::keys::Places;
@@ -48,7 +48,7 @@ pub enum Closed {
 // `at` is the place of the first `tile=(`.
 fn parse_view_tile_shape(inner: &[u8], at: usize) -> TileShape
     requires { Spot (bytes "tile=(") inner.now at }
-    ensures { Tile-is inner.now at result (between (bytes "tile=(") (bytes ")") inner.now) }
+    ensures { TileIs inner.now at result (between (bytes "tile=(") (bytes ")") inner.now) }
 {
     if inner.len() <= at {
         return no_tile();
@@ -79,7 +79,7 @@ fn no_tile() -> TileShape
 
 // Split at `x` if one occurs, else at commas; an unreadable entry is 1.
 fn tile_entries(s: &[u8]) -> List32
-    ensures { list32 result ≡ laid 8 (stands (tile-entries s.now)) }
+    ensures { list32 result ≡ laid 8 (stands (tile_entries s.now)) }
 {
     if lexis::contains(s, b"x", 0) {
         lists::parse_smalls(s, b'x', 1)
@@ -117,7 +117,7 @@ fn parse_padding_value(inner: &[u8], at: usize) -> Padding
 // The inner tensor view; what follows the tile's `)` begins at `behind`.
 fn parse_nested_tensor_view(inner: &[u8], k: Places, behind: usize) -> Tensor
     requires { Placed inner.now k × (k.tile < length inner.now) × (k.tile + 6 ≤ behind) × (behind ≤ length inner.now) }
-    ensures { Tensor-is result (inner-by (opened inner.now (drop behind inner.now))) }
+    ensures { TensorIs result (inner_by (opened inner.now (drop behind inner.now))) }
 {
     match opens(inner, k, behind) {
         Found::At(i) => parse_enclosed(inner, i),
@@ -128,7 +128,7 @@ fn parse_nested_tensor_view(inner: &[u8], k: Places, behind: usize) -> Tensor
 // Up to the matching `>` from `i` on; without one the content is empty, and names no scalar.
 fn parse_enclosed(inner: &[u8], i: usize) -> Tensor
     requires { i ≤ length inner.now }
-    ensures { Tensor-is result (tensor (enclosed (close 0 (drop i inner.now)))) }
+    ensures { TensorIs result (tensor (enclosed (close 0 (drop i inner.now)))) }
 {
     let s = &inner[i..];
     let r = scan(s);
@@ -142,7 +142,7 @@ fn parse_enclosed(inner: &[u8], i: usize) -> Tensor
 
 fn parse_view(inner: &[u8], k: Places) -> View
     requires { Placed inner.now k }
-    ensures { View-is result (view inner.now) }
+    ensures { ViewIs result (view inner.now) }
 {
     let t = parse_view_tile_shape(inner, k.tile);
     if !t.found {
@@ -161,7 +161,7 @@ fn parse_view(inner: &[u8], k: Places) -> View
 }
 
 fn no_view() -> View
-    ensures { View-is result none }
+    ensures { ViewIs result none }
 {
     View {
         found: false,
@@ -174,7 +174,7 @@ fn no_view() -> View
 // Where the list after the first `prefix`, which stands at `at`, begins and ends.
 fn list_after(inner: &[u8], prefix: &[u8], at: usize) -> Closed
     requires { Spot prefix.now inner.now at }
-    ensures { List-is inner.now result (list-after prefix.now inner.now) }
+    ensures { ListIs inner.now result (list_after prefix.now inner.now) }
 {
     if inner.len() <= at {
         return Closed::Absent;
@@ -189,7 +189,7 @@ fn list_after(inner: &[u8], prefix: &[u8], at: usize) -> Closed
 // The list after `prefix`, or `own` where it is absent or never closed.
 fn parse_i32_list_after(inner: &[u8], prefix: &[u8], at: usize, own: List32) -> List32
     requires { Spot prefix.now inner.now at }
-    ensures { list32 result ≡ list-laid (list32 own) (list-after prefix.now inner.now) }
+    ensures { list32 result ≡ list_laid (list32 own) (list_after prefix.now inner.now) }
 {
     match list_after(inner, prefix, at) {
         Closed::Between(a, e) => lists::parse_smalls(&inner[a..e], b',', 0),
@@ -201,7 +201,7 @@ fn parse_i32_list_after(inner: &[u8], prefix: &[u8], at: usize, own: List32) -> 
 // `sparse_dim=` runs to `,`, `>` or the end; unreadable or absent is 0. `at` is its first place.
 fn parse_sparse(inner: &[u8], at: usize) -> List32
     requires { Spot (bytes "sparse_dim=") inner.now at }
-    ensures { list32 result ≡ laid 8 (sparse-by (cut (bytes "sparse_dim=") inner.now)) }
+    ensures { list32 result ≡ laid 8 (sparse_by (cut (bytes "sparse_dim=") inner.now)) }
 {
     if inner.len() <= at {
         return lists::zero();
@@ -213,7 +213,7 @@ fn parse_sparse(inner: &[u8], at: usize) -> List32
     lists::parse_one(&u[..n])
 }
 
-fn view_of(
+fn meant_view(
     kind: Kind,
     v: View,
     map: List32,
@@ -238,7 +238,7 @@ fn view_of(
 // `tile=(dims), [padding_value=X,] tensor_view<...>[, dim_map=[...]]`.
 pub(crate) fn parse_partition_view(inner: &[u8], k: Places, marked: bool) -> Reading
     requires { Placed inner.now k }
-    ensures { result ≡ answered marked (each (carried 8) (partition-view inner.now)) }
+    ensures { result ≡ answered marked (each (carried 8) (partition_view inner.now)) }
 {
     let v = parse_view(inner, k);
     if !v.found {
@@ -247,7 +247,7 @@ pub(crate) fn parse_partition_view(inner: &[u8], k: Places, marked: bool) -> Rea
     let tile = v.tile;
     match list_after(inner, b"dim_map=[", k.map) {
         Closed::Between(a, e) => {
-            view_of(
+            meant_view(
                 Kind::Partition,
                 v,
                 lists::parse_smalls(&inner[a..e], b',', 0),
@@ -257,7 +257,7 @@ pub(crate) fn parse_partition_view(inner: &[u8], k: Places, marked: bool) -> Rea
             )
         }
         Closed::Unclosed => refuse(Refusal::NoType, 0),
-        Closed::Absent => view_of(
+        Closed::Absent => meant_view(
             Kind::Partition,
             v,
             lists::count_up(tile.row.len),
@@ -270,13 +270,13 @@ pub(crate) fn parse_partition_view(inner: &[u8], k: Places, marked: bool) -> Rea
 
 pub(crate) fn parse_gather_scatter_view(inner: &[u8], k: Places, marked: bool) -> Reading
     requires { Placed inner.now k }
-    ensures { result ≡ answered marked (each (carried 8) (gather-scatter-view inner.now)) }
+    ensures { result ≡ answered marked (each (carried 8) (gather_scatter_view inner.now)) }
 {
     let v = parse_view(inner, k);
     if !v.found {
         return refuse(Refusal::NoType, 0);
     }
-    view_of(
+    meant_view(
         Kind::GatherScatter,
         v,
         lists::none32(),
@@ -288,7 +288,7 @@ pub(crate) fn parse_gather_scatter_view(inner: &[u8], k: Places, marked: bool) -
 
 pub(crate) fn parse_strided_view(inner: &[u8], k: Places, marked: bool) -> Reading
     requires { Placed inner.now k }
-    ensures { result ≡ answered marked (each (carried 8) (strided-view inner.now)) }
+    ensures { result ≡ answered marked (each (carried 8) (strided_view inner.now)) }
 {
     let v = parse_view(inner, k);
     if !v.found {
@@ -303,5 +303,5 @@ pub(crate) fn parse_strided_view(inner: &[u8], k: Places, marked: bool) -> Readi
         k.traversal,
         lists::ones(n),
     );
-    view_of(Kind::Strided, v, map, traversal, lists::none32(), marked)
+    meant_view(Kind::Strided, v, map, traversal, lists::none32(), marked)
 }

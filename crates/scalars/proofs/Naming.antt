@@ -11,7 +11,7 @@ use lib.ListN.{length, take, drop, get_or, length-drop, drop_of_length-le}
 use lib.Seq.{drop-drop}
 use borrow.Author.Tests.{eqb-true, eqb-false, ne_eqb}
 use Rattle.lexis.specs.Text.{Text, bytes, if◌then◌else◌, same, begins, trim}
-use Rattle.scalars.specs.Names.{Name, names, named_in, scalar-name}
+use Rattle.scalars.specs.Names.{Name, names, named_in, scalar_name}
 use Rattle.scalars.specs.Rows.{rows_of, rows, which}
 use Rattle.scalars.specs.declared.scalar.Scalar.{Scalar}
 use Rattle.lexis.proofs.Lists.{view}
@@ -29,8 +29,8 @@ enough n (suc k) (suc m) [] p h l = refl
 enough n (suc k) (suc m) (b ∷ s) p h l =
     ap (λ (es : List Text). take n (b ∷ s) ∷ es) (enough n k m (drop n (b ∷ s)) p (rw length-drop (omega arith)) (rw length-drop (omega arith)))
 
-first-row : (n b : ℕ) (s : Text) → 0 < n → rows n (b ∷ s) ≡ take n (b ∷ s) ∷ rows n (drop n (b ∷ s))
-first-row n b s p =
+first_row : (n b : ℕ) (s : Text) → 0 < n → rows n (b ∷ s) ≡ take n (b ∷ s) ∷ rows n (drop n (b ∷ s))
+first_row n b s p =
     ap
     (λ (es : List Text). take n (b ∷ s) ∷ es)
     (enough n (length s) (length (drop n (b ∷ s))) (drop n (b ∷ s)) p (rw length-drop (omega arith)) (le_refl (length (drop n (b ∷ s)))))
@@ -43,7 +43,7 @@ row (c ∷ s) (b ∷ t) = λ i. turned c b i && row s t i
 
 module _ (s t : Text) (n at : ℕ) (p : 0 < length s) where
   next : at < length t → rows (length s) (drop at t) ≡ take (length s) (drop at t) ∷ rows (length s) (drop (at + length s) t)
-  next h = rw (view t at h) (first-row (length s) (get_or t at 0) (drop (at + 1) t) p ∙ rw (← view t at h, drop-drop (length s) at t) refl)
+  next h = rw (view t at h) (first_row (length s) (get_or t at 0) (drop (at + 1) t) p ∙ rw (← view t at h, drop-drop (length s) at t) refl)
 
   pub hit : at < length t → begins s (drop at t) ≡ true → n + which s (rows (length s) (drop at t)) ≡ n
   hit h e = rw (next h, sym (row s (drop at t)) ∙ e) (omega arith)
@@ -86,13 +86,13 @@ found (n ∷ ns) s = by (same (bytes n.spelling) s) (found ns s)
     by false e = e
 
 -- names of another length are not the text
-own-length : (ns : List Name) (s : Text) → named_in (of_length (length s) ns) s ≡ named_in ns s
-own-length [] s = refl
-own-length (n ∷ ns) s =
+own_length : (ns : List Name) (s : Text) → named_in (of_length (length s) ns) s ≡ named_in ns s
+own_length [] s = refl
+own_length (n ∷ ns) s =
     by
     (eqb (length (bytes n.spelling)) (length s))
     (λ e. unlike (bytes n.spelling) s (eqb-false (length (bytes n.spelling)) (length s) e))
-    (own-length ns s)
+    (own_length ns s)
   where
     by : (b : Bool) → (b ≡ false → same (bytes n.spelling) s ≡ false)
         → named_in (of_length (length s) ns) s ≡ named_in ns s
@@ -107,7 +107,7 @@ module _ (k : ℕ) (s t : Text) (q : rows k t ≡ spellings (of_length k names))
       ap (at_place (of_length k names)) (e ∙ ap (λ (j : ℕ). which s (rows j t)) l ∙ ap (which s) q)
       ∙ found (of_length k names) s
       ∙ ap (λ (j : ℕ). named_in (of_length j names) s) (sym l)
-      ∙ own-length names s
+      ∙ own_length names s
 
   pub named : (m : ℕ) → n ≡ m → at_place (of_length k names) m ≡ named_in names s
   named m h = ap (at_place (of_length k names)) (sym h) ∙ place
@@ -124,18 +124,18 @@ module _ (k : ℕ) (s t : Text) (q : rows k t ≡ spellings (of_length k names))
   unnamed h = sym (past (of_length k names) n h) ∙ place
 
 -- where the names' lengths pass a test that the text's does not
-none-such : (p : ℕ → Bool) (ns : List Name) (s : Text) → map (λ (n : Name). p (length (bytes n.spelling))) ns ≡ map (λ (n : Name). true) ns
+none_such : (p : ℕ → Bool) (ns : List Name) (s : Text) → map (λ (n : Name). p (length (bytes n.spelling))) ns ≡ map (λ (n : Name). true) ns
     → p (length s) ≡ false → none ≡ named_in ns s
-none-such p [] s e h = refl
-none-such p (n ∷ ns) s e h =
+none_such p [] s e h = refl
+none_such p (n ∷ ns) s e h =
     let a : p (length (bytes n.spelling)) ≡ true = cc in
     let b : map (λ (n : Name). p (length (bytes n.spelling))) ns ≡ map (λ (n : Name). true) ns = cc in
-    rw (unlike (bytes n.spelling) s (λ k. false≢true (sym h ∙ ap p (sym k) ∙ a))) (none-such p ns s b h)
+    rw (unlike (bytes n.spelling) s (λ k. false≢true (sym h ∙ ap p (sym k) ∙ a))) (none_such p ns s b h)
 
 -- a text of a length that no name has
 pub no_length : (s : Text) → (length s ≡ 2 → ⊥) → (length s ≡ 3 → ⊥) → (length s ≡ 4 → ⊥) → (length s ≡ 6 → ⊥) → (length s ≡ 8 → ⊥) → (length s ≡ 9 → ⊥) → none ≡ named_in names s
 no_length s a b c d e f =
-    none-such
+    none_such
     (λ (l : ℕ). eqb l 2 || eqb l 3 || eqb l 4 || eqb l 6 || eqb l 8 || eqb l 9)
     names
     s
@@ -143,6 +143,6 @@ no_length s a b c d e f =
     (rw (ne_eqb (length s) 2 a, ne_eqb (length s) 3 b, ne_eqb (length s) 4 c, ne_eqb (length s) 6 d, ne_eqb (length s) 8 e, ne_eqb (length s) 9 f))
 
 -- the contract's words
-pub trimmed : (s t : Text) → s ≡ trim t → named_in names s ≡ scalar-name t
-unfolding scalar-name
+pub trimmed : (s t : Text) → s ≡ trim t → named_in names s ≡ scalar_name t
+unfolding scalar_name
 trimmed s t q = ap (named_in names) q

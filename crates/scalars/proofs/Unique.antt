@@ -12,23 +12,23 @@ use Rattle.scalars.proofs.scalar.Scalar.is_float.Reads as is-float
 use Rattle.scalars.proofs.scalar.Scalar.bits.Reads as bits
 use Rattle.scalars.proofs.scalar.parse_scalar.Reads as parse-scalar
 
-pub byte-width-one : One byte_width.Post
-byte-width-one κs a x y s t p q = p ∙ sym q
+pub byte_width_one : One byte_width.Post
+byte_width_one κs a x y s t p q = p ∙ sym q
 
-pub is-integer-one : One is-integer.Post
-is-integer-one κs a x y s t p q = p ∙ sym q
+pub is_integer_one : One is-integer.Post
+is_integer_one κs a x y s t p q = p ∙ sym q
 
-pub is-float-one : One is-float.Post
-is-float-one κs a x y s t p q = p ∙ sym q
+pub is_float_one : One is-float.Post
+is_float_one κs a x y s t p q = p ∙ sym q
 
-pub bits-one : One bits.Post
-bits-one κs a x y s t p q = p ∙ sym q
+pub bits_one : One bits.Post
+bits_one κs a x y s t p q = p ∙ sym q
 
-said-one : (f g : Named) → said f ≡ said g → f ≡ g
-said-one (Is n) (Is m) e = let k : n ≡ m = cc in ap Is k
-said-one (Is n) Unknown e = let z : ◌≡◌ {A = ℕ} 0 1 = cc in let f : ⊥ = omega arith in absurd f
-said-one Unknown (Is m) e = let z : ◌≡◌ {A = ℕ} 0 1 = cc in let f : ⊥ = omega arith in absurd f
-said-one Unknown Unknown e = refl
+said_one : (f g : Named) → said f ≡ said g → f ≡ g
+said_one (Is n) (Is m) e = let k : n ≡ m = cc in ap Is k
+said_one (Is n) Unknown e = let z : ◌≡◌ {A = ℕ} 0 1 = cc in let f : ⊥ = omega arith in absurd f
+said_one Unknown (Is m) e = let z : ◌≡◌ {A = ℕ} 0 1 = cc in let f : ⊥ = omega arith in absurd f
+said_one Unknown Unknown e = refl
 
-pub parse-scalar-one : One parse-scalar.Post
-parse-scalar-one κs a x y s t p q = said-one x y (p ∙ sym q)
+pub parse_scalar_one : One parse-scalar.Post
+parse_scalar_one κs a x y s t p q = said_one x y (p ∙ sym q)

@@ -42,8 +42,8 @@ named_in [] s = none
 named_in (n ∷ ns) s = if same (bytes n.spelling) s then some n.scalar else named_in ns s
 
 -- the scalar that a text names, white space around it aside
-unfoldable pub scalar-name : Text → Option Scalar
-scalar-name s = named_in names (trim s)
+unfoldable pub scalar_name : Text → Option Scalar
+scalar_name s = named_in names (trim s)
 
 -- what the name reader's answer says
 abbrev pub said : Named → Option Scalar
@@ -89,20 +89,20 @@ integer F4E2M1FN = false
 integer F8E5M3FNU = false
 
 -- 1 for I1, 4 for I4 and F4E2M1FN, else 8 times the byte width
-abbrev pub bit-width : Scalar → ℕ
-bit-width I1 = 1
-bit-width I4 = 4
-bit-width F4E2M1FN = 4
-bit-width I8 = 8 * byte_width I8
-bit-width I16 = 8 * byte_width I16
-bit-width I32 = 8 * byte_width I32
-bit-width I64 = 8 * byte_width I64
-bit-width F16 = 8 * byte_width F16
-bit-width BF16 = 8 * byte_width BF16
-bit-width F32 = 8 * byte_width F32
-bit-width TF32 = 8 * byte_width TF32
-bit-width F64 = 8 * byte_width F64
-bit-width F8E4M3FN = 8 * byte_width F8E4M3FN
-bit-width F8E5M2 = 8 * byte_width F8E5M2
-bit-width F8E8M0FNU = 8 * byte_width F8E8M0FNU
-bit-width F8E5M3FNU = 8 * byte_width F8E5M3FNU
+abbrev pub bit_width : Scalar → ℕ
+bit_width I1 = 1
+bit_width I4 = 4
+bit_width F4E2M1FN = 4
+bit_width I8 = 8 * byte_width I8
+bit_width I16 = 8 * byte_width I16
+bit_width I32 = 8 * byte_width I32
+bit_width I64 = 8 * byte_width I64
+bit_width F16 = 8 * byte_width F16
+bit_width BF16 = 8 * byte_width BF16
+bit_width F32 = 8 * byte_width F32
+bit_width TF32 = 8 * byte_width TF32
+bit_width F64 = 8 * byte_width F64
+bit_width F8E4M3FN = 8 * byte_width F8E4M3FN
+bit_width F8E5M2 = 8 * byte_width F8E5M2
+bit_width F8E8M0FNU = 8 * byte_width F8E8M0FNU
+bit_width F8E5M3FNU = 8 * byte_width F8E5M3FNU

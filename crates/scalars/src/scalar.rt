@@ -1,6 +1,6 @@
 // Scalar types and their names (01, module 2).
 ghost use Rattle.std.specs.Prelude.{◌≡◌, not, ◌<◌, length};
-ghost use Rattle.scalars.specs.Names.{scalar-name, named_in, names, said, byte_width, integer, bit-width};
+ghost use Rattle.scalars.specs.Names.{scalar_name, named_in, names, said, byte_width, integer, bit_width};
 ghost use Rattle.scalars.specs.Rows.{rows, which};
 
 use lexis::{begins, trim};
@@ -81,7 +81,7 @@ impl Scalar {
 
     // Bits of a value: 1 for I1, 4 for I4 and F4E2M1FN, else 8 for each byte.
     pub fn bits(self) -> usize
-        ensures { result ≡ bit-width self }
+        ensures { result ≡ bit_width self }
     {
         match self {
             Scalar::I1 => 1,
@@ -200,7 +200,7 @@ fn of_nine(name: &[u8]) -> Named
 
 // The scalar that a text names, white space around it aside: 22 spellings, the five narrow floats in two each, and `bool` for I1.
 pub fn parse_scalar(text: &[u8]) -> Named
-    ensures { said result ≡ scalar-name text.now }
+    ensures { said result ≡ scalar_name text.now }
 {
     let name = trim(text);
     match name.len() {

@@ -11,9 +11,9 @@ use Rattle.meaning.specs.Ordinary.{refused, accepted, ordinary}
 use Rattle.meaning.specs.declared.Note.{Note}
 use Rattle.meaning.specs.declared.Refusal.{Refusal}
 use Rattle.meaning.specs.declared.Refusal.TheVariants.{TooLong, HighByte, NoType, TooMany}
-use Rattle.meaning.proofs.Everywhere.{read, ordinary-all}
+use Rattle.meaning.proofs.Everywhere.{read, ordinary_all}
 use Rattle.meaning.proofs.Thin.{Thin, thin}
-use Rattle.lists.proofs.Bounds.{fell-within, lacking-within}
+use Rattle.lists.proofs.Bounds.{fell_within, lacking_within}
 
 -- ── all four ──
 
@@ -38,11 +38,11 @@ module _ (cap : ℕ) where
 
   -- a clause that fits has no more unreadable entries
   fell : (c : Clause) → fits cap c ≡ true → unreadable c ≤ cap
-  fell c e = let h = leb-true (length (values c)) cap e in let k = fell-within c in omega arith
+  fell c e = let h = leb-true (length (values c)) cap e in let k = fell_within c in omega arith
 
-  counts-few : (t : Found) → Thin t → within cap t ≡ true → Few most (counts t)
+  counts_few : (t : Found) → Thin t → within cap t ≡ true → Few most (counts t)
   unfolding within counts
-  counts-few t h e =
+  counts_few t h e =
       let f = fits cap in
       let e₄ = first (f t.shape && f t.strides && f t.tile && f t.map) (f t.traversal) e in
       let e₃ = first (f t.shape && f t.strides && f t.tile) (f t.map) e₄ in
@@ -52,25 +52,25 @@ module _ (cap : ℕ) where
       let tile = fell t.tile (second (f t.shape && f t.strides) (f t.tile) e₃) in
       let map = fell t.map (second (f t.shape && f t.strides && f t.tile) (f t.map) e₄) in
       let traversal = fell t.traversal (second (f t.shape && f t.strides && f t.tile && f t.map) (f t.traversal) e) in
-      let sparse = fell-within t.sparse in
+      let sparse = fell_within t.sparse in
       record {
         a = omega arith;
         b = omega arith;
         c = omega arith;
-        d = omega (arith, lacking-within t.strides, lacking-within t.map, lacking-within t.traversal, lacking-within t.sparse);
+        d = omega (arith, lacking_within t.strides, lacking_within t.map, lacking_within t.traversal, lacking_within t.sparse);
       }
 
-  refused-few : (r : Refusal) (place : ℕ) → Few most (refused cap r place).note
+  refused_few : (r : Refusal) (place : ℕ) → Few most (refused cap r place).note
   unfolding refused
-  refused-few r place = record { a = omega arith; b = omega arith; c = omega arith; d = omega arith }
+  refused_few r place = record { a = omega arith; b = omega arith; c = omega arith; d = omega arith }
 
   pub few : (size : ℕ) (s : Text) → Few most (ordinary cap size s).note
   unfolding accepted
   few size s =
-      ordinary-all Thin (read Thin thin) cap (λ r. Few most r.note) (record {
-        too_long = refused-few TooLong 0;
-        high = refused-few HighByte;
-        no-type = refused-few NoType 0;
-        too_many = refused-few TooMany 0;
-        accepts = counts-few;
+      ordinary_all Thin (read Thin thin) cap (λ r. Few most r.note) (record {
+        too_long = refused_few TooLong 0;
+        high = refused_few HighByte;
+        no_type = refused_few NoType 0;
+        too_many = refused_few TooMany 0;
+        accepts = counts_few;
       }) size s

@@ -20,7 +20,7 @@ pub record Turn (w : Walker) (text : Text) (Rest : Walker → Type 0) : Type 0 w
   pub finds : at.found ≡ true
   pub row : Bor (List ℕ)
   pub holds : Holds onto at row
-  pub text-is : row.now ≡ text
+  pub text_is : row.now ≡ text
   pub onward : Rest onto
 
 -- the last call of `next`
@@ -40,9 +40,9 @@ through w (r ∷ rs) t =
     let s = w.sheet.now in
     let e : cut 65536 s w.place ≡ t.at = sym t.nexts.0 in
     let f = found 65536 s w.place (ap (λ (c : Cut). c.found) e ∙ t.finds) in
-    let p : r ≡ bytes_of t.at s = sym t.text-is ∙ t.holds ∙ ap (λ (x : Bor (List ℕ)). bytes_of t.at x.now) t.nexts.1.0 in
+    let p : r ≡ bytes_of t.at s = sym t.text_is ∙ t.holds ∙ ap (λ (x : Bor (List ℕ)). bytes_of t.at x.now) t.nexts.1.0 in
     let q : rs ≡ left 65536 s t.at.next = through t.onto rs t.onward ∙ (λ i. left 65536 (t.nexts.1.0 i).now (t.nexts.1.1 i)) in
     (λ i. p i ∷ q i) ∙ sym (f.same ∙ ap (λ (c : Cut). bytes_of c s ∷ left 65536 s c.next) e)
 
-pub whole-walk : (s : Bor (List ℕ)) (w : Walker) (rs : List Text) → Begins s w → Yields w rs → rs ≡ yielded 65536 s.now
-whole-walk s w rs b t = through w rs t ∙ (λ i. left 65536 (b.0 i).now (b.1 i))
+pub whole_walk : (s : Bor (List ℕ)) (w : Walker) (rs : List Text) → Begins s w → Yields w rs → rs ≡ yielded 65536 s.now
+whole_walk s w rs b t = through w rs t ∙ (λ i. left 65536 (b.0 i).now (b.1 i))

@@ -10,24 +10,24 @@ use borrow.Author.Tests.{leb-true, ltb-true, ltb-false, le-leb, lt-ltb, le-ltb}
 use lib.Dec.{eqb, leb, ltb}
 use lib.ListN.{length, take, drop, length-drop, drop_of_length-le}
 use lib.Seq.{take_all, take-nil, drop-drop}
-use Rattle.lexis.specs.Text.{Text, if◌then◌else◌, onto-first, until}
+use Rattle.lexis.specs.Text.{Text, if◌then◌else◌, onto_first, until}
 use Rattle.lexis.proofs.Lists.{rest}
-use Rattle.lexis.proofs.Seeking.{until-within, until-take}
+use Rattle.lexis.proofs.Seeking.{until_within, until_take}
 use Rattle.sheet.specs.declared.Cut.{Cut}
 use Rattle.sheet.specs.Sheet.{rows, behind, row_at, no_row, cut, stretch, bytes_of}
 
 -- ── the pieces of `cut_at` and `part` ──
 
 module _ (s : Text) (end : ℕ) where
-  pub with-feed : end < length s → end + 1 ≡ behind s end
-  with-feed h = rw (lt-ltb end (length s) h)
+  pub with_feed : end < length s → end + 1 ≡ behind s end
+  with_feed h = rw (lt-ltb end (length s) h)
 
-  pub without-feed : length s ≤ end → end ≡ behind s end
-  without-feed h = rw (le-ltb end (length s) h)
+  pub without_feed : length s ≤ end → end ≡ behind s end
+  without_feed h = rw (le-ltb end (length s) h)
 
   module _ (first : ℕ) where
-    pub none-there : length s ≤ first → [] ≡ stretch first end s
-    none-there h = sym (rw (drop_of_length-le s h) (take-nil (end - first)))
+    pub none_there : length s ≤ first → [] ≡ stretch first end s
+    none_there h = sym (rw (drop_of_length-le s h) (take-nil (end - first)))
 
     pub to_the_end : length s ≤ end → take (length s - first) (drop first s) ≡ stretch first end s
     to_the_end h = rest s first ∙ sym (take_all (end - first) (drop first s) (let l : length (drop first s) ≡ length s - first = length-drop first s in omega arith))
@@ -36,14 +36,14 @@ module _ (s : Text) (end : ℕ) where
     turned h = sym (ap (λ (n : ℕ). take n (drop first s)) (sub-eq-zero_of_le h))
 
 module _ (limit : ℕ) (s : Text) (p : ℕ) where
-  pub cut-row : {end next : ℕ} → leb (length s) limit && ltb p (length s) ≡ true → end ≡ p + length (until (eqb 10) (drop p s)) → next ≡ behind s end
+  pub cut_row : {end next : ℕ} → leb (length s) limit && ltb p (length s) ≡ true → end ≡ p + length (until (eqb 10) (drop p s)) → next ≡ behind s end
       → record { found = true; first = p; end = end; next = next } ≡ cut limit s p
   unfolding cut
-  cut-row {end} {next} h e n = rw (h, n, e)
+  cut_row {end} {next} h e n = rw (h, n, e)
 
-  pub cut-none : leb (length s) limit && ltb p (length s) ≡ false → no_row p ≡ cut limit s p
+  pub cut_none : leb (length s) limit && ltb p (length s) ≡ false → no_row p ≡ cut limit s p
   unfolding cut
-  cut-none h = rw h
+  cut_none h = rw h
 
 -- ── the first row of a rest ──
 
@@ -56,14 +56,14 @@ parted : (t : Text) → Parted t
 parted [] = tt
 parted (b ∷ t) = by (eqb 10 b) t (parted t)
   where
-    by : (d : Bool) (t : Text) → Parted t → if d then [] ∷ rows t else onto-first b (rows t) ≡ (if d then [] else b ∷ until (eqb 10) t) ∷ rows (drop (length (if d then [] else b ∷ until (eqb 10) t)) t)
+    by : (d : Bool) (t : Text) → Parted t → if d then [] ∷ rows t else onto_first b (rows t) ≡ (if d then [] else b ∷ until (eqb 10) t) ∷ rows (drop (length (if d then [] else b ∷ until (eqb 10) t)) t)
     by true t e = refl
     by false [] e = refl
-    by false (c ∷ u) e = ap (onto-first b) e
+    by false (c ∷ u) e = ap (onto_first b) e
 
-parted-at : (t : Text) → 0 < length t → rows t ≡ until (eqb 10) t ∷ rows (drop (length (until (eqb 10) t) + 1) t)
-parted-at [] h = let f : ⊥ = omega arith in absurd f
-parted-at (b ∷ t) h = parted (b ∷ t) ∙ ap (λ (n : ℕ). until (eqb 10) (b ∷ t) ∷ rows (drop n (b ∷ t))) (sym (add-one (length (until (eqb 10) (b ∷ t)))))
+parted_at : (t : Text) → 0 < length t → rows t ≡ until (eqb 10) t ∷ rows (drop (length (until (eqb 10) t) + 1) t)
+parted_at [] h = let f : ⊥ = omega arith in absurd f
+parted_at (b ∷ t) h = parted (b ∷ t) ∙ ap (λ (n : ℕ). until (eqb 10) (b ∷ t) ∷ rows (drop n (b ∷ t))) (sym (add-one (length (until (eqb 10) (b ∷ t)))))
 
 -- ── the rows from a place on ──
 
@@ -81,9 +81,9 @@ module _ (limit : ℕ) (s : Text) where
     pub onward : p < c.next
     pub same : left p ≡ bytes_of c s ∷ left c.next
 
-  pub first-is : (p : ℕ) → (cut limit s p).first ≡ p
+  pub first_is : (p : ℕ) → (cut limit s p).first ≡ p
   unfolding cut
-  first-is p = by (leb (length s) limit && ltb p (length s))
+  first_is p = by (leb (length s) limit && ltb p (length s))
     where
       by : (d : Bool) → (if d then row_at s p (p + length (until (eqb 10) (drop p s))) else no_row p).first ≡ p
       by true = refl
@@ -104,18 +104,18 @@ module _ (limit : ℕ) (s : Text) where
     row : length s ≤ limit → p < length s → Row p (row_at s p (p + length line))
     row h k =
         let l : length (drop p s) ≡ length s - p = length-drop p s in
-        let u : length line ≤ length (drop p s) = until-within (eqb 10) (drop p s) in
+        let u : length line ≤ length (drop p s) = until_within (eqb 10) (drop p s) in
         record {
           short = h;
           inside = k;
           forward = omega arith;
           ends = omega arith;
           onward = by (ltb (p + length line) (length s)) (ltb-false (p + length line) (length s));
-          same = rw (le-leb (length s) limit h) (parted-at (drop p s) (omega arith) ∙ (λ i. part i ∷ rows (drops i)));
+          same = rw (le-leb (length s) limit h) (parted_at (drop p s) (omega arith) ∙ (λ i. part i ∷ rows (drops i)));
         }
       where
         part : line ≡ stretch p (p + length line) s
-        part = sym (ap (λ (n : ℕ). take n (drop p s)) (add-sub_cancel_left p (length line)) ∙ until-take (eqb 10) (drop p s))
+        part = sym (ap (λ (n : ℕ). take n (drop p s)) (add-sub_cancel_left p (length line)) ∙ until_take (eqb 10) (drop p s))
 
         by : (d : Bool) → (d ≡ false → length s ≤ p + length line) → p < (if d then p + length line + 1 else p + length line)
         by true h = omega arith

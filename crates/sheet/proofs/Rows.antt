@@ -8,9 +8,9 @@ use mathlib.Core.Path.{◌≡◌, refl, sym, ap, ◌∙◌}
 use borrow.Author.Tests.{eqb-true, lt-leb}
 use lib.Dec.{eqb, leb}
 use lib.ListN.{length, drop, drop_of_length-le}
-use Rattle.lexis.specs.Text.{Text, if◌then◌else◌, onto-first, until}
+use Rattle.lexis.specs.Text.{Text, if◌then◌else◌, onto_first, until}
 use Rattle.meaning.specs.Ordinary.{refused, accepted, ordinary}
-use Rattle.meaning.proofs.Everywhere.{read, ordinary-all}
+use Rattle.meaning.proofs.Everywhere.{read, ordinary_all}
 use Rattle.meaning.specs.declared.Reading.{Reading}
 use Rattle.sheet.specs.declared.Cut.{Cut}
 use Rattle.sheet.specs.declared.Counted.TheVariants.{TooLong}
@@ -41,12 +41,12 @@ module _ (limit : ℕ) (s : Text) where
       by false e k = sym (ended limit s p e)
 
   -- the whole walk, from the front: exactly the rows, in order, or none of a sheet over the limit; and more cuts find nothing more
-  pub walks-all : (n : ℕ) → length s < n → walked n 0 ≡ yielded limit s
-  walks-all n h = walks n 0 (omega arith)
+  pub walks_all : (n : ℕ) → length s < n → walked n 0 ≡ yielded limit s
+  walks_all n h = walks n 0 (omega arith)
 
   -- a walk that has ended stays ended, where it is
-  pub stays-ended : (p : ℕ) → (cut limit s p).found ≡ false → cut limit s (cut limit s p).next ≡ no_row p
-  stays-ended p e = ap (cut limit s) (ap (λ (c : Cut). c.next) (stays limit s p e)) ∙ stays limit s p e
+  pub stays_ended : (p : ℕ) → (cut limit s p).found ≡ false → cut limit s (cut limit s p).next ≡ no_row p
+  stays_ended p e = ap (cut limit s) (ap (λ (c : Cut). c.next) (stays limit s p e)) ∙ stays limit s p e
 
   pub none_over : limit < length s → yielded limit s ≡ []
   none_over h = rw (lt-leb (length s) limit h)
@@ -68,28 +68,28 @@ closed (b ∷ c ∷ s) = closed (c ∷ s)
 abbrev pub completed : Text → Text
 completed s = if closed s then s else s ++ 10 ∷ []
 
-completed-more : (b c : ℕ) (s : Text) → b ∷ completed (c ∷ s) ≡ completed (b ∷ c ∷ s)
-completed-more b c s = by (closed (c ∷ s))
+completed_more : (b c : ℕ) (s : Text) → b ∷ completed (c ∷ s) ≡ completed (b ∷ c ∷ s)
+completed_more b c s = by (closed (c ∷ s))
   where
     by : (d : Bool) → b ∷ (if d then c ∷ s else c ∷ s ++ 10 ∷ []) ≡ (if d then b ∷ c ∷ s else b ∷ c ∷ s ++ 10 ∷ [])
     by true = refl
     by false = refl
 
 -- a byte in front of the first row is one in front of the lines, where there is a row
-put_first : (b : ℕ) (d : Bool) (c : ℕ) (rs : List Text) → lines (onto-first b (if d then [] ∷ rs else onto-first c rs)) ≡ b ∷ lines (if d then [] ∷ rs else onto-first c rs)
+put_first : (b : ℕ) (d : Bool) (c : ℕ) (rs : List Text) → lines (onto_first b (if d then [] ∷ rs else onto_first c rs)) ≡ b ∷ lines (if d then [] ∷ rs else onto_first c rs)
 put_first b true c rs = refl
 put_first b false c [] = refl
 put_first b false c (r ∷ rs) = refl
 
-pub joined-again : (s : Text) → lines (rows s) ≡ completed s
-joined-again [] = refl
-joined-again (b ∷ s) = by s (eqb 10 b) refl (joined-again s)
+pub joined_again : (s : Text) → lines (rows s) ≡ completed s
+joined_again [] = refl
+joined_again (b ∷ s) = by s (eqb 10 b) refl (joined_again s)
   where
-    by : (s : Text) (d : Bool) → eqb 10 b ≡ d → lines (rows s) ≡ completed s → lines (if d then [] ∷ rows s else onto-first b (rows s)) ≡ completed (b ∷ s)
+    by : (s : Text) (d : Bool) → eqb 10 b ≡ d → lines (rows s) ≡ completed s → lines (if d then [] ∷ rows s else onto_first b (rows s)) ≡ completed (b ∷ s)
     by [] true e h = rw e (ap (λ (n : ℕ). n ∷ []) (eqb-true 10 b e))
     by [] false e h = rw e
-    by (c ∷ s) true e h = (λ i. eqb-true 10 b e i ∷ h i) ∙ completed-more b c s
-    by (c ∷ s) false e h = put_first b (eqb 10 c) c (rows s) ∙ ap (λ (l : Text). b ∷ l) h ∙ completed-more b c s
+    by (c ∷ s) true e h = (λ i. eqb-true 10 b e i ∷ h i) ∙ completed_more b c s
+    by (c ∷ s) false e h = put_first b (eqb 10 c) c (rows s) ∙ ap (λ (l : Text). b ∷ l) h ∙ completed_more b c s
 
 -- and no row holds a line feed
 abbrev pub Feedless : List Text → Type 0
@@ -100,7 +100,7 @@ pub feedless : (s : Text) → Feedless (rows s)
 feedless [] = tt
 feedless (b ∷ s) = by (eqb 10 b) refl (rows s) (feedless s)
   where
-    by : (d : Bool) → eqb 10 b ≡ d → (rs : List Text) → Feedless rs → Feedless (if d then [] ∷ rs else onto-first b rs)
+    by : (d : Bool) → eqb 10 b ≡ d → (rs : List Text) → Feedless rs → Feedless (if d then [] ∷ rs else onto_first b rs)
     by true e rs h = (refl, h)
     by false e [] h = (rw e, tt)
     by false e (r ∷ rs) h = (rw e (ap (λ (l : Text). b ∷ l) h.0), h.1)
@@ -114,7 +114,7 @@ Once r = counted 0 r + counted 1 r + counted 2 r + counted 3 r + counted 4 r ≡
 module _ (cap size : ℕ) where
   once : (s : Text) → Once (ordinary cap size s)
   unfolding refused accepted
-  once s = ordinary-all Thin (read Thin thin) cap Once (record { too_long = refl; high = λ p. refl; no-type = refl; too_many = refl; accepts = λ t h e. refl }) size s
+  once s = ordinary_all Thin (read Thin thin) cap Once (record { too_long = refl; high = λ p. refl; no_type = refl; too_many = refl; accepts = λ t h e. refl }) size s
 
   abbrev of : ℕ → List Text → ℕ
   of n rs = sum (λ r. counted n (ordinary cap size r)) rs
@@ -123,20 +123,20 @@ module _ (cap size : ℕ) where
   all_once [] = refl
   all_once (r ∷ rs) = let h = once r in let k = all_once rs in omega arith
 
-  pub every-row-once : (limit : ℕ) (s : Text) → let t = totals limit cap size s in t.accepted + t.refused_1 + t.refused_2 + t.refused_3 + t.refused_4 ≡ t.rows
+  pub every_row_once : (limit : ℕ) (s : Text) → let t = totals limit cap size s in t.accepted + t.refused_1 + t.refused_2 + t.refused_3 + t.refused_4 ≡ t.rows
   unfolding totals
-  every-row-once limit s = all_once (yielded limit s)
+  every_row_once limit s = all_once (yielded limit s)
 
   -- how many rows there are
-  pub how-many : (limit : ℕ) (s : Text) → (totals limit cap size s).rows ≡ length (yielded limit s)
+  pub how_many : (limit : ℕ) (s : Text) → (totals limit cap size s).rows ≡ length (yielded limit s)
   unfolding totals
-  how-many limit s = by (yielded limit s)
+  how_many limit s = by (yielded limit s)
     where
       by : (rs : List Text) → sum (λ r. 1) rs ≡ length rs
       by [] = refl
       by (r ∷ rs) = let h = by rs in omega arith
 
   -- of a sheet over the limit every number is 0
-  pub over-is-nothing : (limit : ℕ) (s : Text) → limit < length s → totals limit cap size s ≡ nothing TooLong
+  pub over_is_nothing : (limit : ℕ) (s : Text) → limit < length s → totals limit cap size s ≡ nothing TooLong
   unfolding totals
-  over-is-nothing limit s h = rw (lt-leb (length s) limit h)
+  over_is_nothing limit s h = rw (lt-leb (length s) limit h)

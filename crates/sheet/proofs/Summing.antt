@@ -8,7 +8,7 @@ use mathlib.Core.Path.{◌≡◌, refl, sym, ap, subst, ◌∙◌}
 use borrow.Author.Tests.{leb-true}
 use lib.Dec.{eqb, leb}
 use lib.ListN.{length}
-use Rattle.lexis.specs.Text.{Text, if◌then◌else◌, onto-first}
+use Rattle.lexis.specs.Text.{Text, if◌then◌else◌, onto_first}
 use Rattle.meaning.specs.Ordinary.{ordinary}
 use Rattle.meaning.specs.Refusals as R
 use Rattle.meaning.specs.declared.Reading.{Reading}
@@ -19,7 +19,7 @@ use Rattle.sheet.specs.declared.sums.Told.{Told}
 use Rattle.sheet.specs.Sheet.{rows, yielded, cut, bytes_of, answered, sum, counted, summed, totals}
 use Rattle.sheet.specs.Parts.{told, none, one, ◌plus◌, added, Below}
 use Rattle.sheet.proofs.Bounds.{most, few}
-use Rattle.sheet.proofs.Cutting.{left, Row, first-is, found, ended}
+use Rattle.sheet.proofs.Cutting.{left, Row, first_is, found, ended}
 
 -- ── totals, and those of more rows ──
 
@@ -53,8 +53,8 @@ plus_none t a = λ i. record {
   d = add-zero t.d i;
 }
 
-none-plus : (t : Totals) → none t.answer plus t ≡ t
-none-plus t = λ i. record {
+none_plus : (t : Totals) → none t.answer plus t ≡ t
+none_plus t = λ i. record {
   answer = t.answer;
   rows = zero-add t.rows i;
   accepted = zero-add t.accepted i;
@@ -68,8 +68,8 @@ none-plus t = λ i. record {
   d = zero-add t.d i;
 }
 
-part-below : (n : ℕ) (t u : Totals) → Below n (t plus u) → Below n t
-part-below n t u b = record {
+part_below : (n : ℕ) (t u : Totals) → Below n (t plus u) → Below n t
+part_below n t u b = record {
   rows = omega (arith, b.rows);
   accepted = omega (arith, b.accepted);
   refused_1 = omega (arith, b.refused_1);
@@ -85,29 +85,29 @@ part-below n t u b = record {
 -- ── how large ──
 
 -- at most n for each row
-sum-few : (n : ℕ) (f : Text → ℕ) → ((r : Text) → f r ≤ n) → (rs : List Text) → sum f rs ≤ n * length rs
-sum-few n f h [] = omega arith
-sum-few n f h (r ∷ rs) = let k = sum-few n f h rs in let l = h r in omega arith
+sum_few : (n : ℕ) (f : Text → ℕ) → ((r : Text) → f r ≤ n) → (rs : List Text) → sum f rs ≤ n * length rs
+sum_few n f h [] = omega arith
+sum_few n f h (r ∷ rs) = let k = sum_few n f h rs in let l = h r in omega arith
 
 -- a row has a byte, or a line feed behind it
-pub few-rows : (s : Text) → length (rows s) ≤ length s
-few-rows [] = omega arith
-few-rows (b ∷ s) = by (eqb 10 b) (rows s) (few-rows s)
+pub few_rows : (s : Text) → length (rows s) ≤ length s
+few_rows [] = omega arith
+few_rows (b ∷ s) = by (eqb 10 b) (rows s) (few_rows s)
   where
-    by : (d : Bool) (rs : List Text) → length rs ≤ length s → length (if d then [] ∷ rs else onto-first b rs) ≤ suc (length s)
+    by : (d : Bool) (rs : List Text) → length rs ≤ length s → length (if d then [] ∷ rs else onto_first b rs) ≤ suc (length s)
     by true rs h = omega arith
     by false [] h = omega arith
     by false (r ∷ rs) h = omega arith
 
-pub few-yielded : (limit : ℕ) (s : Text) → length (yielded limit s) ≤ limit
-few-yielded limit s = by (leb (length s) limit) (leb-true (length s) limit)
+pub few_yielded : (limit : ℕ) (s : Text) → length (yielded limit s) ≤ limit
+few_yielded limit s = by (leb (length s) limit) (leb-true (length s) limit)
   where
     by : (d : Bool) → (d ≡ true → length s ≤ limit) → length (if d then rows s else []) ≤ limit
-    by true h = let k = h refl in let l = few-rows s in omega arith
+    by true h = let k = h refl in let l = few_rows s in omega arith
     by false h = omega arith
 
-counted-few : (n : ℕ) (r : Reading) → counted n r ≤ 1
-counted-few n r = by (eqb (R.number r.refusal) n)
+counted_few : (n : ℕ) (r : Reading) → counted n r ≤ 1
+counted_few n r = by (eqb (R.number r.refusal) n)
   where
     by : (d : Bool) → (if d then 1 else 0) ≤ 1
     by true = omega arith
@@ -122,17 +122,17 @@ module _ (s : Text) where
 
   -- at most 20 for each of 65,536 rows
   below_of : (f : Text → ℕ) → ((r : Text) → f r ≤ most 8) → sum f ys < 2 ^ 64
-  below_of f h = let k = sum-few (most 8) f h ys in let l = few-yielded 65536 s in omega arith
+  below_of f h = let k = sum_few (most 8) f h ys in let l = few_yielded 65536 s in omega arith
 
   below : Below (2 ^ 64) (totals 65536 8 1024 s)
   unfolding totals
   below = record {
     rows = below_of (λ r. 1) (λ r. omega arith);
-    accepted = below_of (λ r. counted 0 (read r)) (λ r. omega (arith, counted-few 0 (read r)));
-    refused_1 = below_of (λ r. counted 1 (read r)) (λ r. omega (arith, counted-few 1 (read r)));
-    refused_2 = below_of (λ r. counted 2 (read r)) (λ r. omega (arith, counted-few 2 (read r)));
-    refused_3 = below_of (λ r. counted 3 (read r)) (λ r. omega (arith, counted-few 3 (read r)));
-    refused_4 = below_of (λ r. counted 4 (read r)) (λ r. omega (arith, counted-few 4 (read r)));
+    accepted = below_of (λ r. counted 0 (read r)) (λ r. omega (arith, counted_few 0 (read r)));
+    refused_1 = below_of (λ r. counted 1 (read r)) (λ r. omega (arith, counted_few 1 (read r)));
+    refused_2 = below_of (λ r. counted 2 (read r)) (λ r. omega (arith, counted_few 2 (read r)));
+    refused_3 = below_of (λ r. counted 3 (read r)) (λ r. omega (arith, counted_few 3 (read r)));
+    refused_4 = below_of (λ r. counted 4 (read r)) (λ r. omega (arith, counted_few 4 (read r)));
     a = below_of (λ r. (read r).note.a) (λ r. (few 8 1024 r).a);
     b = below_of (λ r. (read r).note.b) (λ r. (few 8 1024 r).b);
     c = below_of (λ r. (read r).note.c) (λ r. (few 8 1024 r).c);
@@ -142,20 +142,20 @@ module _ (s : Text) where
   -- ── what the loop holds ──
 
   -- the totals of the rows from a place on
-  abbrev pub to-come : ℕ → Totals
-  to-come p = summed (answered 65536 s) read (left 65536 s p)
+  abbrev pub to_come : ℕ → Totals
+  to_come p = summed (answered 65536 s) read (left 65536 s p)
 
   pub record Counting (t : Totals) (c : Cut) : Type 0 where
     pub at : c ≡ cut 65536 s c.first
-    pub same : totals 65536 8 1024 s ≡ t plus to-come c.first
+    pub same : totals 65536 8 1024 s ≡ t plus to_come c.first
 
   pub begins : {t : Totals} {c : Cut} {a : Counted} → a ≡ answered 65536 s → t ≡ none a → c ≡ cut 65536 s 0 → Counting t c
   unfolding totals
   begins {t} {c} {a} e n k =
-      let z : c.first ≡ 0 = ap (λ (d : Cut). d.first) k ∙ first-is 65536 s 0 in
+      let z : c.first ≡ 0 = ap (λ (d : Cut). d.first) k ∙ first_is 65536 s 0 in
       record {
         at = k ∙ ap (cut 65536 s) (sym z);
-        same = sym (none-plus (to-come 0)) ∙ (λ i. sym (n ∙ ap none e) i plus to-come (sym z i));
+        same = sym (none_plus (to_come 0)) ∙ (λ i. sym (n ∙ ap none e) i plus to_come (sym z i));
       }
 
   module _ {t : Totals} {c : Cut} (g : Counting t c) where
@@ -164,20 +164,20 @@ module _ (s : Text) where
 
     module _ {r : Told} (e : c.found ≡ true) (q : r ≡ told (read (bytes_of c s))) where
       -- the first row to come is counted
-      grown : totals 65536 8 1024 s ≡ added t r plus to-come c.next
+      grown : totals 65536 8 1024 s ≡ added t r plus to_come c.next
       grown =
           g.same ∙ ap (λ (rs : List Text). t plus summed (answered 65536 s) read rs) (row e).same
-          ∙ sym (plus_assoc t (one (told (read (bytes_of c s)))) (to-come c.next)) ∙ ap (λ (x : Told). added t x plus to-come c.next) (sym q)
+          ∙ sym (plus_assoc t (one (told (read (bytes_of c s)))) (to_come c.next)) ∙ ap (λ (x : Told). added t x plus to_come c.next) (sym q)
 
       pub room : Below (2 ^ 64) (added t r)
-      room = part-below (2 ^ 64) (added t r) (to-come c.next) (subst (Below (2 ^ 64)) grown below)
+      room = part_below (2 ^ 64) (added t r) (to_come c.next) (subst (Below (2 ^ 64)) grown below)
 
       module _ {u : Totals} {d : Cut} (p : u ≡ added t r) (k : d ≡ cut 65536 s c.next) where
         starts : d.first ≡ c.next
-        starts = ap (λ (x : Cut). x.first) k ∙ first-is 65536 s c.next
+        starts = ap (λ (x : Cut). x.first) k ∙ first_is 65536 s c.next
 
         pub again : Counting u d
-        again = record { at = k ∙ ap (cut 65536 s) (sym starts); same = grown ∙ (λ i. sym p i plus to-come (sym starts i)) }
+        again = record { at = k ∙ ap (cut 65536 s) (sym starts); same = grown ∙ (λ i. sym p i plus to_come (sym starts i)) }
 
         pub less : length s - d.first < length s - c.first
         less = let a = (row e).inside in let b = (row e).onward in let f = starts in omega arith

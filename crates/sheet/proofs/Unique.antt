@@ -27,14 +27,14 @@ use Rattle.sheet.specs.contracts.walk as walk
 use Rattle.sheet.specs.contracts.next as next
 use Rattle.sheet.specs.contracts.row as row
 
-pub number-one : (f : Counted) (m n : ℕ) (s t : AtExit (ended_of 0 number-kinds.ps number-kinds.r) tt) → number.Post tt (f, tt) m s → number.Post tt (f, tt) n t → m ≡ n
-number-one f m n s t p q = p ∙ sym q
+pub number_one : (f : Counted) (m n : ℕ) (s t : AtExit (ended_of 0 number-kinds.ps number-kinds.r) tt) → number.Post tt (f, tt) m s → number.Post tt (f, tt) n t → m ≡ n
+number_one f m n s t p q = p ∙ sym q
 
-pub cut-at-one : One cut_at.Post
-cut-at-one κs a x y s t p q = p ∙ sym q
+pub cut_at_one : One cut_at.Post
+cut_at_one κs a x y s t p q = p ∙ sym q
 
-pub totals-one : One totals.Post
-totals-one κs a x y s t p q = p ∙ sym q
+pub totals_one : One totals.Post
+totals_one κs a x y s t p q = p ∙ sym q
 
 -- ── the walker ──
 
@@ -51,25 +51,25 @@ abbrev pub Holds : Walker → Cut → Bor (List ℕ) → Type 0
 Holds w c r = r.now ≡ bytes_of c w.sheet.now
 
 module _ {M : Type 1} {𝓤 : Ura M} (𝓛 : Logic 𝓤) (mem : Memory → SProp 𝓤) (run : Routine → Fun 𝓤) where
-  pub walk-says : (κs : Lfts 1) (a : ArgsD walk.signature κs) (w : ResD walk.signature κs) (s : AtExit walk.ended κs) → (walk.clauses 𝓛 mem run κs a).ensures tt w s ≡ fact 𝓤 (Begins a.0 w)
-  walk-says κs a w s = refl
+  pub walk_says : (κs : Lfts 1) (a : ArgsD walk.signature κs) (w : ResD walk.signature κs) (s : AtExit walk.ended κs) → (walk.clauses 𝓛 mem run κs a).ensures tt w s ≡ fact 𝓤 (Begins a.0 w)
+  walk_says κs a w s = refl
 
-  pub next-says : (κs : Lfts 2) (a : ArgsD next.signature κs) (c : ResD next.signature κs) (s : AtExit next.ended κs) → (next.clauses 𝓛 mem run κs a).ensures tt c s ≡ fact 𝓤 (Nexts a.0.now c s.0.now)
-  next-says κs a c s = refl
+  pub next_says : (κs : Lfts 2) (a : ArgsD next.signature κs) (c : ResD next.signature κs) (s : AtExit next.ended κs) → (next.clauses 𝓛 mem run κs a).ensures tt c s ≡ fact 𝓤 (Nexts a.0.now c s.0.now)
+  next_says κs a c s = refl
 
-  pub row-says : (κs : Lfts 1) (a : ArgsD row.signature κs) (r : ResD row.signature κs) (s : AtExit row.ended κs) → (row.clauses 𝓛 mem run κs a).ensures tt r s ≡ fact 𝓤 (Holds a.0 a.1.0 r)
-  row-says κs a r s = refl
+  pub row_says : (κs : Lfts 1) (a : ArgsD row.signature κs) (r : ResD row.signature κs) (s : AtExit row.ended κs) → (row.clauses 𝓛 mem run κs a).ensures tt r s ≡ fact 𝓤 (Holds a.0 a.1.0 r)
+  row_says κs a r s = refl
 
-same-walker : {v w : Walker} → v.sheet ≡ w.sheet → v.place ≡ w.place → v ≡ w
-same-walker p q = λ i. record { sheet = p i; place = q i }
+same_walker : {v w : Walker} → v.sheet ≡ w.sheet → v.place ≡ w.place → v ≡ w
+same_walker p q = λ i. record { sheet = p i; place = q i }
 
-pub walk-one : (s : Bor (List ℕ)) (v w : Walker) → Begins s v → Begins s w → v ≡ w
-walk-one s v w p q = same-walker (p.0 ∙ sym q.0) (p.1 ∙ sym q.1)
+pub walk_one : (s : Bor (List ℕ)) (v w : Walker) → Begins s v → Begins s w → v ≡ w
+walk_one s v w p q = same_walker (p.0 ∙ sym q.0) (p.1 ∙ sym q.1)
 
 pub next_one : (w : Walker) (c d : Cut) (u v : Walker) → Nexts w c u → Nexts w d v → (c ≡ d) × (u ≡ v)
 next_one w c d u v p q =
     let e : c ≡ d = p.0 ∙ sym q.0 in
-    (e, same-walker (p.1.0 ∙ sym q.1.0) (p.1.1 ∙ ap (λ (x : Cut). x.next) e ∙ sym q.1.1))
+    (e, same_walker (p.1.0 ∙ sym q.1.0) (p.1.1 ∙ ap (λ (x : Cut). x.next) e ∙ sym q.1.1))
 
 pub row_one : (w : Walker) (c : Cut) (r s : Bor (List ℕ)) → Holds w c r → Holds w c s → r.now ≡ s.now
 row_one w c r s p q = p ∙ sym q

@@ -1,7 +1,7 @@
 -- A sheet of texts (02, C-11): its rows, where each lies, and the totals over them.
 -- `limit` is that of a sheet, `size` that of a text, `cap` that of a list.
 use Rattle.std.specs.Prelude.{ℕ, ◌+◌, ◌-◌, true, false, ◌&&◌, List, [], ◌∷◌, eqb, leb, ltb, length, take, drop}
-use Rattle.lexis.specs.Text.{Text, if◌then◌else◌, onto-first, until}
+use Rattle.lexis.specs.Text.{Text, if◌then◌else◌, onto_first, until}
 use Rattle.meaning.specs.Ordinary.{ordinary}
 use Rattle.meaning.specs.Refusals as R
 use Rattle.meaning.specs.declared.Reading.{Reading}
@@ -15,7 +15,7 @@ use Rattle.sheet.specs.declared.sums.Totals.{Totals}
 -- a row ends with byte 10; a last one without it counts if it has a byte
 abbrev pub rows : Text → List Text
 rows [] = []
-rows (b ∷ s) = if eqb 10 b then [] ∷ rows s else onto-first b (rows s)
+rows (b ∷ s) = if eqb 10 b then [] ∷ rows s else onto_first b (rows s)
 
 -- a sheet over the limit yields none
 abbrev pub yielded : ℕ → Text → List Text

@@ -10,7 +10,7 @@ use Rattle.lexis.specs.Text.{bytes}
 use Rattle.scalars.specs.declared.scalar.Scalar.{Scalar}
 use Rattle.grammar.specs.Piece.{Answer, got, stuck}
 use Rattle.grammar.specs.Join.{mapped, after}
-use Rattle.grammar.specs.Table.{pick, sound-table}
+use Rattle.grammar.specs.Table.{pick, sound_table}
 use Rattle.grammar.specs.Spelt.{listed, two, quiet}
 use Rattle.grammar.specs.Elements as G
 use Rattle.grammar.specs.Elements.{ends}
@@ -25,10 +25,10 @@ use Rattle.grammar.specs.Body as B
 use Rattle.strict.specs.Rows.{dims64, list64}
 use Rattle.strict.specs.Lists.{Row, nothing, pushed, pushes}
 use Rattle.strict.specs.Plain.{scalar}
-use Rattle.strict.proofs.Together.{Same, both, along, convey, label, closing, close, ended, ended-then}
-use Rattle.strict.proofs.Endings.{large-list}
+use Rattle.strict.proofs.Together.{Same, both, along, convey, label, closing, close, ended, ended_then}
+use Rattle.strict.proofs.Endings.{large_list}
 use Rattle.strict.proofs.Rows.{parts}
-use Rattle.strict.proofs.Picking.{choose-label}
+use Rattle.strict.proofs.Picking.{choose_label}
 
 -- one part after another, in other values: the law of every step below
 join : {A A' B B' : Type 0} (h : A → A') (f' : A' → List ℕ → Answer B') (f : A → List ℕ → Answer B) (g : B → B') →
@@ -43,92 +43,92 @@ twice f g (stuck r) = refl
 abbrev pub marked : ℕ → Bool
 marked k = eqb k 1
 
-abbrev pub core-said : I.Cored → G.Core
-core-said c = record { pointer = c.pointer; element = scalar c.word; attribute = c.marked }
+abbrev pub core_said : I.Cored → G.Core
+core_said c = record { pointer = c.pointer; element = scalar c.word; attribute = c.marked }
 
-name-is : (t : List ℕ) → (G.names).read t ≡ mapped scalar (choose I.names t)
-name-is t = choose-label scalar I.names t
+name_is : (t : List ℕ) → (G.names).read t ≡ mapped scalar (choose I.names t)
+name_is t = choose_label scalar I.names t
 
 -- a pointer's content, by the table of what closes it: alone, or with the end of the tile around it
-module _ (w table : List ℕ) (h : T (sound-table quiet (bytes ">,") (listed (G.ends w) (λ (m : Bool). m) two)))
+module _ (w table : List ℕ) (h : T (sound_table quiet (bytes ">,") (listed (G.ends w) (λ (m : Bool). m) two)))
     (close-is : (t : List ℕ) → pick t (listed (G.ends w) (λ (m : Bool). m) two) ≡ mapped marked (choose table t)) where
-  pointee-by : (t : List ℕ) → (G.pointee w h).read t ≡ mapped core-said (I.pointee table t)
-  pointee-by t = ap (after (λ (s : Scalar) r. mapped (G.closed s) (pick r (listed (G.ends w) (λ (m : Bool). m) two)))) (name-is t)
-      ∙ join scalar (λ (s : Scalar) r. mapped (G.closed s) (pick r (listed (G.ends w) (λ (m : Bool). m) two))) (I.closing table) core-said
-      (λ k r. ap (mapped (G.closed (scalar k))) (close-is r) ∙ twice marked (G.closed (scalar k)) (choose table r) ∙ sym (twice (I.closed k) core-said (choose table r))) (choose I.names t)
+  pointee_by : (t : List ℕ) → (G.pointee w h).read t ≡ mapped core_said (I.pointee table t)
+  pointee_by t = ap (after (λ (s : Scalar) r. mapped (G.closed s) (pick r (listed (G.ends w) (λ (m : Bool). m) two)))) (name_is t)
+      ∙ join scalar (λ (s : Scalar) r. mapped (G.closed s) (pick r (listed (G.ends w) (λ (m : Bool). m) two))) (I.closing table) core_said
+      (λ k r. ap (mapped (G.closed (scalar k))) (close-is r) ∙ twice marked (G.closed (scalar k)) (choose table r) ∙ sym (twice (I.closed k) core_said (choose table r))) (choose I.names t)
 
-pub pointee-is : (t : List ℕ) → (G.pointee (bytes ">") tt).read t ≡ mapped core-said (I.pointee I.close t)
-pointee-is = pointee-by (bytes ">") I.close tt (λ t. choose-label marked I.close t)
+pub pointee_is : (t : List ℕ) → (G.pointee (bytes ">") tt).read t ≡ mapped core_said (I.pointee I.close t)
+pointee_is = pointee_by (bytes ">") I.close tt (λ t. choose_label marked I.close t)
 
-pointee-both-is : (t : List ℕ) → (G.pointee (bytes ">>") tt).read t ≡ mapped core-said (I.pointee I.close-both t)
-pointee-both-is = pointee-by (bytes ">>") I.close-both tt (λ t. choose-label marked I.close-both t)
+pointee_both_is : (t : List ℕ) → (G.pointee (bytes ">>") tt).read t ≡ mapped core_said (I.pointee I.close_both t)
+pointee_both_is = pointee_by (bytes ">>") I.close_both tt (λ t. choose_label marked I.close_both t)
 
 -- ── a tile's element ──
-abbrev pub kern-of : Bool → Scalar → G.Kern
-kern-of true s = G.plain s
-kern-of false s = G.point
+abbrev pub kern_of : Bool → Scalar → G.Kern
+kern_of true s = G.plain s
+kern_of false s = G.point
 
-abbrev pub kern-said : ℕ → G.Kern
-kern-said k = kern-of (ltb k 22) (scalar k)
+abbrev pub kern_said : ℕ → G.Kern
+kern_said k = kern_of (ltb k 22) (scalar k)
 
-kern-is : (t : List ℕ) → (G.kern).read t ≡ mapped kern-said (choose I.kerns t)
-kern-is t = choose-label kern-said I.kerns t
+kern_is : (t : List ℕ) → (G.kern).read t ≡ mapped kern_said (choose I.kerns t)
+kern_is t = choose_label kern_said I.kerns t
 
-core_is : (t : List ℕ) → (G.core).read t ≡ mapped core-said (I.core t)
+core_is : (t : List ℕ) → (G.core).read t ≡ mapped core_said (I.core t)
 unfolding I.core
-core_is t = ap (after (λ (k : G.Kern). (G.kern-tail k).read)) (kern-is t) ∙ join kern-said (λ (k : G.Kern). (G.kern-tail k).read) I.core-of core-said (λ k r. by k r (ltb k 22)) (choose I.kerns t)
+core_is t = ap (after (λ (k : G.Kern). (G.kern_tail k).read)) (kern_is t) ∙ join kern_said (λ (k : G.Kern). (G.kern_tail k).read) I.core_of core_said (λ k r. by k r (ltb k 22)) (choose I.kerns t)
   where
     by : (k : ℕ) (r : List ℕ) (b : Bool) →
-        (G.kern-tail (kern-of b (scalar k))).read r ≡ mapped core-said (cond b (mapped (λ (m : ℕ). I.plain k) (choose (bytes ">|") r)) (I.pointee I.close-both r))
-    by k r true = choose-label (λ (m : ℕ). G.flatCore (scalar k)) (bytes ">|") r ∙ sym (twice (λ (m : ℕ). I.plain k) core-said (choose (bytes ">|") r))
-    by k r false = pointee-both-is r
+        (G.kern_tail (kern_of b (scalar k))).read r ≡ mapped core_said (cond b (mapped (λ (m : ℕ). I.plain k) (choose (bytes ">|") r)) (I.pointee I.close_both r))
+    by k r true = choose_label (λ (m : ℕ). G.flat_core (scalar k)) (bytes ">|") r ∙ sym (twice (λ (m : ℕ). I.plain k) core_said (choose (bytes ">|") r))
+    by k r false = pointee_both_is r
 
 -- ── a tile ──
 pub record Tile~ (e : Ended ℤ G.Core) (c : I.Tiled) : Type 0 where
   pub shape : pushes nothing e.items ≡ c.shape
-  pub core : e.last ≡ core-said c.core
+  pub core : e.last ≡ core_said c.core
 
-pub tile-is : (t : List ℕ) → Same Tile~ ((G.tile-inside).read t) (I.tile t)
+pub tile_is : (t : List ℕ) → Same Tile~ ((G.tile_inside).read t) (I.tile t)
 unfolding I.tile dims64
-tile-is t = subst (λ (p : Answer (Ended ℤ G.Core)). Same Tile~ p (I.tile t)) (sym (parts S.dimx G.core tt (λ a. S.nothing (bytes "ibftp!")) refl t))
-    (ended (G.core).read I.core (λ x. label core-said ((G.core).read x) (I.core x) (core_is x)) I.tile-of (λ zs b k h. record { shape = refl; core = h }) (dims64 t))
+tile_is t = subst (λ (p : Answer (Ended ℤ G.Core)). Same Tile~ p (I.tile t)) (sym (parts S.dimx G.core tt (λ a. S.nothing (bytes "ibftp!")) refl t))
+    (ended (G.core).read I.core (λ x. label core_said ((G.core).read x) (I.core x) (core_is x)) I.tile_of (λ zs b k h. record { shape = refl; core = h }) (dims64 t))
 
 -- ── a tensor view: the strides' list and its end, what follows the name, the whole ──
 pub record Rest~ (e : Ended ℤ Bool) (c : I.Rested) : Type 0 where
   pub strides : pushes nothing e.items ≡ c.strides
   pub mark : e.last ≡ c.marked
 
-listed-is : (t : List ℕ) → Same Rest~ ((B.strides-list).read t) (I.listed t)
+listed_is : (t : List ℕ) → Same Rest~ ((B.strides_list).read t) (I.listed t)
 unfolding I.listed
-listed-is t = subst (λ (p : Answer (Ended ℤ Bool)). Same Rest~ p (I.listed t)) (sym (large-list B.brackets tt tt refl t))
-    (ended (B.brackets).read (choose I.brackets) (λ x. label marked ((B.brackets).read x) (choose I.brackets x) (choose-label marked I.brackets x)) I.rest_of
+listed_is t = subst (λ (p : Answer (Ended ℤ Bool)). Same Rest~ p (I.listed t)) (sym (large_list B.brackets tt tt refl t))
+    (ended (B.brackets).read (choose I.brackets) (λ x. label marked ((B.brackets).read x) (choose I.brackets x) (choose_label marked I.brackets x)) I.rest_of
     (λ zs b k h. record { strides = refl; mark = h }) (list64 t))
 
-abbrev turn-of : Bool → Bool → B.Turn
-turn-of true m = B.close m
-turn-of false m = B.list
+abbrev turn_of : Bool → Bool → B.Turn
+turn_of true m = B.close m
+turn_of false m = B.list
 
-abbrev turn-said : ℕ → B.Turn
-turn-said k = turn-of (ltb k 2) (marked k)
+abbrev turn_said : ℕ → B.Turn
+turn_said k = turn_of (ltb k 2) (marked k)
 
-pushes-len : (l : Row) (zs : List ℤ) → (pushes l zs).len ≡ l.len + length zs
-pushes-len l [] = omega arith
-pushes-len l (z ∷ zs) = let h = pushes-len (pushed l z) zs in omega arith
+pushes_len : (l : Row) (zs : List ℤ) → (pushes l zs).len ≡ l.len + length zs
+pushes_len l [] = omega arith
+pushes_len l (z ∷ zs) = let h = pushes_len (pushed l z) zs in omega arith
 
 -- at rank 0 the strides may be absent
-rest-is : (zs : List ℤ) (t : List ℕ) → Same Rest~ ((B.after zs).read t) (I.rest (pushes nothing zs).len t)
+rest_is : (zs : List ℤ) (t : List ℕ) → Same Rest~ ((B.after zs).read t) (I.rest (pushes nothing zs).len t)
 unfolding I.rest
-rest-is [] t = along (λ u. (B.turnQ u).read) I.begun (label turn-said (pick t (listed (ends (bytes ">")) B.close two ++ listed B.intro (λ s. B.list) two)) (choose I.opened t) (choose-label turn-said I.opened t))
-    (λ u k r h. subst (λ (u : B.Turn). Same Rest~ ((B.turnQ u).read r) (I.begun k r)) (sym h) (by k r (ltb k 2)))
+rest_is [] t = along (λ u. (B.turn_q u).read) I.begun (label turn_said (pick t (listed (ends (bytes ">")) B.close two ++ listed B.intro (λ s. B.list) two)) (choose I.opened t) (choose_label turn_said I.opened t))
+    (λ u k r h. subst (λ (u : B.Turn). Same Rest~ ((B.turn_q u).read r) (I.begun k r)) (sym h) (by k r (ltb k 2)))
   where
-    by : (k : ℕ) (r : List ℕ) (b : Bool) → Same Rest~ ((B.turnQ (turn-of b (marked k))).read r) (cond b (got (I.rest_of nothing k) r) (I.listed r))
+    by : (k : ℕ) (r : List ℕ) (b : Bool) → Same Rest~ ((B.turn_q (turn_of b (marked k))).read r) (cond b (got (I.rest_of nothing k) r) (I.listed r))
     by k r true = both (U.ended (marked k)) (I.rest_of nothing k) r (record { strides = refl; mark = refl })
-    by k r false = listed-is r
-rest-is (z ∷ zs) t = subst (λ (b : Bool). Same Rest~ ((B.must).read t) (cond b (after I.begun (choose I.opened t)) (after I.given (choose I.must t)))) (sym some)
-    (along (λ (s : Bool). (B.strides-list).read) I.given (label (λ k. marked k) (pick t (listed B.intro (λ (s : Bool). s) two)) (choose I.must t) (choose-label marked I.must t)) (λ s k r h. listed-is r))
+    by k r false = listed_is r
+rest_is (z ∷ zs) t = subst (λ (b : Bool). Same Rest~ ((B.must).read t) (cond b (after I.begun (choose I.opened t)) (after I.given (choose I.must t)))) (sym some)
+    (along (λ (s : Bool). (B.strides_list).read) I.given (label (λ k. marked k) (pick t (listed B.intro (λ (s : Bool). s) two)) (choose I.must t) (choose_label marked I.must t)) (λ s k r h. listed_is r))
   where
     some : eqb (pushes (pushed nothing z) zs).len 0 ≡ false
-    some = ne_eqb (pushes (pushed nothing z) zs).len 0 (let h = pushes-len (pushed nothing z) zs in omega arith)
+    some = ne_eqb (pushes (pushed nothing z) zs).len 0 (let h = pushes_len (pushed nothing z) zs in omega arith)
 
 pub record Tens~ (e : B.Tens) (c : I.Tensed) : Type 0 where
   pub shape : pushes nothing e.shape ≡ c.shape
@@ -136,11 +136,11 @@ pub record Tens~ (e : B.Tens) (c : I.Tensed) : Type 0 where
   pub strides : pushes nothing e.strides ≡ c.rest.strides
   pub mark : e.attribute ≡ c.rest.marked
 
-pub tensor-is : (t : List ℕ) → Same Tens~ ((B.tensor-inside).read t) (I.tensor t)
+pub tensor_is : (t : List ℕ) → Same Tens~ ((B.tensor_inside).read t) (I.tensor t)
 unfolding I.tensor dims64
-tensor-is t = subst (λ (p : Answer (Ended ℤ Scalar)). Same Tens~ (after rest p) (I.tensor t)) (sym (parts S.dimx G.names tt (λ a. S.nothing (bytes "ibft")) refl t))
-    (ended-then (G.names).read (choose I.names) (λ x. label scalar ((G.names).read x) (choose I.names x) (name-is x)) rest (λ l k x. mapped (I.tens-of l k) (I.rest l.len x))
-    (λ zs b k x h. convey (B.tens (closing zs b)) (I.tens-of (pushes nothing zs) k) (rest-is zs x) (λ e c q. record { shape = refl; element = h; strides = q.strides; mark = q.mark })) (dims64 t))
+tensor_is t = subst (λ (p : Answer (Ended ℤ Scalar)). Same Tens~ (after rest p) (I.tensor t)) (sym (parts S.dimx G.names tt (λ a. S.nothing (bytes "ibft")) refl t))
+    (ended_then (G.names).read (choose I.names) (λ x. label scalar ((G.names).read x) (choose I.names x) (name_is x)) rest (λ l k x. mapped (I.tens_of l k) (I.rest l.len x))
+    (λ zs b k x h. convey (B.tens (closing zs b)) (I.tens_of (pushes nothing zs) k) (rest_is zs x) (λ e c q. record { shape = refl; element = h; strides = q.strides; mark = q.mark })) (dims64 t))
   where
     rest : Ended ℤ Scalar → List ℕ → Answer B.Tens
     rest e x = mapped (B.tens e) ((B.after e.items).read x)

@@ -25,44 +25,44 @@ use Rattle.strict.specs.Rows.{list32}
 use Rattle.strict.specs.Lists.{Row, nothing, pushes}
 use Rattle.strict.specs.Inner as I
 use Rattle.strict.specs.Views as C
-use Rattle.strict.specs.Whole.{Entire, view-of, view}
+use Rattle.strict.specs.Whole.{Entire, view_of, view}
 use Rattle.strict.specs.Plain.{padding, seen, said}
-use Rattle.strict.proofs.Items.{num-is}
-use Rattle.strict.proofs.Picking.{choose-label}
-use Rattle.strict.proofs.Together.{Same, neither, Named, along, convey, onto, label, closing, close, ended, ended-then}
-use Rattle.strict.proofs.Endings.{small-list, entry-list}
-use Rattle.strict.proofs.Bridge.{marked, Tens~, tensor-is}
+use Rattle.strict.proofs.Items.{num_is}
+use Rattle.strict.proofs.Picking.{choose_label}
+use Rattle.strict.proofs.Together.{Same, neither, Named, along, convey, onto, label, closing, close, ended, ended_then}
+use Rattle.strict.proofs.Endings.{small_list, entry_list}
+use Rattle.strict.proofs.Bridge.{marked, Tens~, tensor_is}
 
 -- ── the tensor view, and the padding before it ──
 pub record Sight~ (v : G.Sight) (c : C.Seen) : Type 0 where
   pub padding : v.padding ≡ padding c.padded c.pad
   pub tens : Tens~ v.tens c.tensor
 
-abbrev pad-said : ℕ → Padding
-pad-said k = padding true k
+abbrev pad_said : ℕ → Padding
+pad_said k = padding true k
 
-abbrev mid-of : Bool → G.Mid
-mid-of true = G.padded
-mid-of false = G.bare
+abbrev mid_of : Bool → G.Mid
+mid_of true = G.padded
+mid_of false = G.bare
 
-abbrev mid-said : ℕ → G.Mid
-mid-said k = mid-of (ltb k 2)
+abbrev mid_said : ℕ → G.Mid
+mid_said k = mid_of (ltb k 2)
 
 -- after a padding's name: the comma and the introduction
-led-is : (p : Padding) (k : ℕ) → p ≡ pad-said k → (t : List ℕ) →
-    Same Sight~ (after (λ (u : Unit {0}) x. mapped (G.sight p) ((B.tensor-inside).read x)) ((G.lead).read t)) (C.led k t)
-led-is p k e t = along (λ (u : Unit {0}) x. mapped (G.sight p) ((B.tensor-inside).read x)) (λ (n : ℕ) x. mapped (C.seen true k) (I.tensor x))
-    (label (λ (n : ℕ). tt) ((G.lead).read t) (choose C.leads t) (choose-label (λ (n : ℕ). tt) C.leads t))
-    (λ u n r h. convey (G.sight p) (C.seen true k) (tensor-is r) (λ a b q. record { padding = e; tens = q }))
+led_is : (p : Padding) (k : ℕ) → p ≡ pad_said k → (t : List ℕ) →
+    Same Sight~ (after (λ (u : Unit {0}) x. mapped (G.sight p) ((B.tensor_inside).read x)) ((G.lead).read t)) (C.led k t)
+led_is p k e t = along (λ (u : Unit {0}) x. mapped (G.sight p) ((B.tensor_inside).read x)) (λ (n : ℕ) x. mapped (C.seen true k) (I.tensor x))
+    (label (λ (n : ℕ). tt) ((G.lead).read t) (choose C.leads t) (choose_label (λ (n : ℕ). tt) C.leads t))
+    (λ u n r h. convey (G.sight p) (C.seen true k) (tensor_is r) (λ a b q. record { padding = e; tens = q }))
 
-sight-is : (k : ℕ) (t : List ℕ) → Same Sight~ ((G.tens-part (mid-said k)).read t) (C.sight k t)
+sight_is : (k : ℕ) (t : List ℕ) → Same Sight~ ((G.tens_part (mid_said k)).read t) (C.sight k t)
 unfolding C.sight
-sight-is k t = by (ltb k 2)
+sight_is k t = by (ltb k 2)
   where
-    by : (b : Bool) → Same Sight~ ((G.tens-part (mid-of b)).read t) (cond b (after C.led (choose C.pads t)) (mapped (C.seen false 0) (I.tensor t)))
-    by true = along (λ (p : Padding) r. after (λ (u : Unit {0}) x. mapped (G.sight p) ((B.tensor-inside).read x)) ((G.lead).read r)) C.led
-        (label pad-said ((G.padded-names).read t) (choose C.pads t) (choose-label pad-said C.pads t)) (λ p k r h. led-is p k h r)
-    by false = convey (G.sight P.Absent) (C.seen false 0) (tensor-is t) (λ a b q. record { padding = refl; tens = q })
+    by : (b : Bool) → Same Sight~ ((G.tens_part (mid_of b)).read t) (cond b (after C.led (choose C.pads t)) (mapped (C.seen false 0) (I.tensor t)))
+    by true = along (λ (p : Padding) r. after (λ (u : Unit {0}) x. mapped (G.sight p) ((B.tensor_inside).read x)) ((G.lead).read r)) C.led
+        (label pad_said ((G.padded_names).read t) (choose C.pads t) (choose_label pad_said C.pads t)) (λ p k r h. led_is p k h r)
+    by false = convey (G.sight P.Absent) (C.seen false 0) (tensor_is t) (λ a b q. record { padding = refl; tens = q })
 
 -- ── a list, and the tensor view ──
 pub record Staged : Type 0 where
@@ -80,60 +80,60 @@ pub record Scene~ (v : G.Scene) (c : Staged) : Type 0 where
   pub sight : Sight~ v.sight c.sight
 
 abbrev stage : Ended ℤ G.Mid → List ℕ → Answer G.Scene
-stage e x = mapped (G.scene e) ((G.tens-part e.last).read x)
+stage e x = mapped (G.scene e) ((G.tens_part e.last).read x)
 
-staged : (zs : List ℤ) (m : G.Mid) (k : ℕ) (x : List ℕ) → m ≡ mid-said k → Same Scene~ (stage (closing zs m) x) (mapped (stage' (pushes nothing zs)) (C.sight k x))
+staged : (zs : List ℤ) (m : G.Mid) (k : ℕ) (x : List ℕ) → m ≡ mid_said k → Same Scene~ (stage (closing zs m) x) (mapped (stage' (pushes nothing zs)) (C.sight k x))
 staged zs m k x h = subst (λ (m : G.Mid). Same Scene~ (stage (closing zs m) x) (mapped (stage' (pushes nothing zs)) (C.sight k x))) (sym h)
-    (convey (G.scene (closing zs (mid-said k))) (stage' (pushes nothing zs)) (sight-is k x) (λ a b q. record { list = refl; sight = q }))
+    (convey (G.scene (closing zs (mid_said k))) (stage' (pushes nothing zs)) (sight_is k x) (λ a b q. record { list = refl; sight = q }))
 
 -- by the piece that ends the list: after a tile's entries `)`, after those of a traversal `]`
-scene-by : (b : Bool) (q : List ℕ → Answer G.Mid) → ((x : List ℕ) → Same (Named mid-said) (q x) (C.mid b x)) → (t : List ℕ) → Same Scene~ (after stage (after (close q) (list32 b t))) (scene b t)
-scene-by b q h t = ended-then q (C.mid b) h stage (λ l k x. mapped (stage' l) (C.sight k x)) staged (list32 b t)
+scene_by : (b : Bool) (q : List ℕ → Answer G.Mid) → ((x : List ℕ) → Same (Named mid_said) (q x) (C.mid b x)) → (t : List ℕ) → Same Scene~ (after stage (after (close q) (list32 b t))) (scene b t)
+scene_by b q h t = ended_then q (C.mid b) h stage (λ l k x. mapped (stage' l) (C.sight k x)) staged (list32 b t)
 
-tile-mid : (t : List ℕ) → Same (Named mid-said) ((G.mid 41 tt).read t) (C.mid true t)
+tile_mid : (t : List ℕ) → Same (Named mid_said) ((G.mid 41 tt).read t) (C.mid true t)
 unfolding C.mid
-tile-mid t = label mid-said ((G.mid 41 tt).read t) (choose C.mids t) (choose-label mid-said C.mids t)
+tile_mid t = label mid_said ((G.mid 41 tt).read t) (choose C.mids t) (choose_label mid_said C.mids t)
 
-walk-mid : (t : List ℕ) → Same (Named mid-said) ((G.mid 93 tt).read t) (C.mid false t)
+walk_mid : (t : List ℕ) → Same (Named mid_said) ((G.mid 93 tt).read t) (C.mid false t)
 unfolding C.mid
-walk-mid t = label mid-said ((G.mid 93 tt).read t) (choose C.walk-mids t) (choose-label mid-said C.walk-mids t)
+walk_mid t = label mid_said ((G.mid 93 tt).read t) (choose C.walk_mids t) (choose_label mid_said C.walk_mids t)
 
-tile-scene-is : (t : List ℕ) → Same Scene~ ((N.tile-scene).read t) (scene true t)
-tile-scene-is t = subst (λ (p : Answer (Ended ℤ G.Mid)). Same Scene~ (after stage p) (scene true t)) (sym (entry-list (G.mid 41 tt) tt tt refl tt t)) (scene-by true (G.mid 41 tt).read tile-mid t)
+tile_scene_is : (t : List ℕ) → Same Scene~ ((N.tile_scene).read t) (scene true t)
+tile_scene_is t = subst (λ (p : Answer (Ended ℤ G.Mid)). Same Scene~ (after stage p) (scene true t)) (sym (entry_list (G.mid 41 tt) tt tt refl tt t)) (scene_by true (G.mid 41 tt).read tile_mid t)
 
-walk-scene-is : (t : List ℕ) → Same Scene~ ((N.walk-scene).read t) (scene false t)
-walk-scene-is t = subst (λ (p : Answer (Ended ℤ G.Mid)). Same Scene~ (after stage p) (scene false t)) (sym (small-list (G.mid 93 tt) tt tt refl t)) (scene-by false (G.mid 93 tt).read walk-mid t)
+walk_scene_is : (t : List ℕ) → Same Scene~ ((N.walk_scene).read t) (scene false t)
+walk_scene_is t = subst (λ (p : Answer (Ended ℤ G.Mid)). Same Scene~ (after stage p) (scene false t)) (sym (small_list (G.mid 93 tt) tt tt refl t)) (scene_by false (G.mid 93 tt).read walk_mid t)
 
 -- ── the ends ──
 abbrev pub Map~ : Ended ℤ (Unit {0}) → Row → Type 0
 Map~ e l = pushes nothing e.items ≡ l
 
-map-list-is : (t : List ℕ) → Same Map~ ((N.map-list).read t) (after C.map_tail (C.entries false t))
-map-list-is t = subst (λ (p : Answer (Ended ℤ (Unit {0}))). Same Map~ p (after C.map_tail (C.entries false t))) (sym (small-list N.map-end tt tt refl t))
-    (ended (N.map-end).read (choose (bytes "]>|")) (λ x. label (λ (k : ℕ). tt) ((N.map-end).read x) (choose (bytes "]>|") x) (choose-label (λ (k : ℕ). tt) (bytes "]>|") x)) (λ l k. l)
+map_list_is : (t : List ℕ) → Same Map~ ((N.map_list).read t) (after C.map_tail (C.entries false t))
+map_list_is t = subst (λ (p : Answer (Ended ℤ (Unit {0}))). Same Map~ p (after C.map_tail (C.entries false t))) (sym (small_list N.map_end tt tt refl t))
+    (ended (N.map_end).read (choose (bytes "]>|")) (λ x. label (λ (k : ℕ). tt) ((N.map_end).read x) (choose (bytes "]>|") x) (choose_label (λ (k : ℕ). tt) (bytes "]>|") x)) (λ l k. l)
     (λ zs b k h. refl) (list32 false t))
 
-map-part-is : (t : List ℕ) → Same Map~ ((N.map-part).read t) (C.map-part t)
-unfolding C.map-part
-map-part-is t = along (λ (s : Bool). (N.map-list).read) C.map-from
-    (label marked (pick t (listed (N.after-comma (bytes "dim_map=[")) (λ (s : Bool). s) two)) (choose C.maps t) (choose-label marked C.maps t)) (λ s k r h. map-list-is r)
+map_part_is : (t : List ℕ) → Same Map~ ((N.map_part).read t) (C.map_part t)
+unfolding C.map_part
+map_part_is t = along (λ (s : Bool). (N.map_list).read) C.map_from
+    (label marked (pick t (listed (N.after_comma (bytes "dim_map=[")) (λ (s : Bool). s) two)) (choose C.maps t) (choose_label marked C.maps t)) (λ s k r h. map_list_is r)
 
-sparse-part-is : (t : List ℕ) → Same ◌≡◌ ((N.sparse-part).read t) (C.sparse-part t)
-unfolding C.sparse-part
-sparse-part-is t = along (λ (s : Bool). (N.sparse-last).read) C.sparse-from
-    (label marked (pick t (listed (N.after-comma (bytes "sparse_dim=")) (λ (s : Bool). s) two)) (choose C.sparses t) (choose-label marked C.sparses t)) (λ s k r h. last r)
+sparse_part_is : (t : List ℕ) → Same ◌≡◌ ((N.sparse_part).read t) (C.sparse_part t)
+unfolding C.sparse_part
+sparse_part_is t = along (λ (s : Bool). (N.sparse_last).read) C.sparse_from
+    (label marked (pick t (listed (N.after_comma (bytes "sparse_dim=")) (λ (s : Bool). s) two)) (choose C.sparses t) (choose_label marked C.sparses t)) (λ s k r h. last r)
   where
-    end : (z : ℤ) (r : List ℕ) → Same ◌≡◌ (pick r ((bytes ">" ↝ z) ∷ [])) (C.sparse-tail z r)
-    end z r = label (λ (y : ℤ). y) (pick r ((bytes ">" ↝ z) ∷ [])) (C.sparse-tail z r) (choose-label (λ (k : ℕ). z) (bytes ">|") r ∙ again (C.sparse-tail z r))
+    end : (z : ℤ) (r : List ℕ) → Same ◌≡◌ (pick r ((bytes ">" ↝ z) ∷ [])) (C.sparse_tail z r)
+    end z r = label (λ (y : ℤ). y) (pick r ((bytes ">" ↝ z) ∷ [])) (C.sparse_tail z r) (choose_label (λ (k : ℕ). z) (bytes ">|") r ∙ again (C.sparse_tail z r))
       where
         again : (p : Answer ℤ) → p ≡ mapped (λ (y : ℤ). y) p
         again (got y r) = refl
         again (stuck r) = refl
 
-    last : (r : List ℕ) → Same ◌≡◌ ((N.sparse-last).read r) (after C.sparse-tail (C.small r))
-    last r = subst (λ (p : Answer ℤ). Same ◌≡◌ (after (λ z x. pick x ((bytes ">" ↝ z) ∷ [])) p) (after C.sparse-tail (C.small r))) (sym (num-is r)) (each (C.small r))
+    last : (r : List ℕ) → Same ◌≡◌ ((N.sparse_last).read r) (after C.sparse_tail (C.small r))
+    last r = subst (λ (p : Answer ℤ). Same ◌≡◌ (after (λ z x. pick x ((bytes ">" ↝ z) ∷ [])) p) (after C.sparse_tail (C.small r))) (sym (num_is r)) (each (C.small r))
       where
-        each : (p : Answer ℤ) → Same ◌≡◌ (after (λ z x. pick x ((bytes ">" ↝ z) ∷ [])) p) (after C.sparse-tail p)
+        each : (p : Answer ℤ) → Same ◌≡◌ (after (λ z x. pick x ((bytes ">" ↝ z) ∷ [])) p) (after C.sparse_tail p)
         each (got z x) = end z x
         each (stuck x) = neither x
 
@@ -141,17 +141,17 @@ pub record Ends~ (m : List ℤ) (z : ℤ) (c : C.Closed) : Type 0 where
   pub map : pushes nothing m ≡ c.map
   pub sparse : z ≡ c.sparse
 
-map-end-is : (t : List ℕ) → Same (λ e c. Ends~ e.items (pos 0) c) ((N.map-part).read t) (C.ending false t)
+map_end_is : (t : List ℕ) → Same (λ e c. Ends~ e.items (pos 0) c) ((N.map_part).read t) (C.ending false t)
 unfolding C.ending
-map-end-is t = onto (λ m. C.closed m (pos 0)) (map-part-is t) (λ e m q. record { map = q; sparse = refl })
+map_end_is t = onto (λ m. C.closed m (pos 0)) (map_part_is t) (λ e m q. record { map = q; sparse = refl })
 
-sparse-end-is : (t : List ℕ) → Same (λ z c. Ends~ [] z c) ((N.sparse-part).read t) (C.ending true t)
+sparse_end_is : (t : List ℕ) → Same (λ z c. Ends~ [] z c) ((N.sparse_part).read t) (C.ending true t)
 unfolding C.ending
-sparse-end-is t = onto (C.closed nothing) (sparse-part-is t) (λ z y q. record { map = refl; sparse = q })
+sparse_end_is t = onto (C.closed nothing) (sparse_part_is t) (λ z y q. record { map = refl; sparse = q })
 
 -- ── the views ──
 abbrev pub View~ : Kind → Any → C.Viewed → Type 0
-View~ k a c = seen a ≡ said (view-of k c)
+View~ k a c = seen a ≡ said (view_of k c)
 
 view~ : (k : Kind) (tl m w : List ℤ) (v : G.Sight) (z : ℤ) (c : C.Seen) (l : Row) (lm lw : Row) (y : ℤ) → pushes nothing tl ≡ l → Sight~ v c → pushes nothing m ≡ lm → pushes nothing w ≡ lw → z ≡ y →
     View~ k (N.sighted k tl v m w z) (C.viewed l c lm lw y)
@@ -173,93 +173,93 @@ view~ k tl m w v z c l lm lw y a s b d e = λ j. record {
 abbrev bare : Bool → List ℕ → Answer C.Viewed
 bare b t = after (λ c r. mapped (λ e. C.viewed c.list c.sight e.map nothing e.sparse) (C.ending b r)) (scene true t)
 
-abbrev walk-rest : Row → List ℕ → Answer C.Viewed
-walk-rest l t = after (λ c r. mapped (λ e. C.viewed l c.sight e.map c.list e.sparse) (C.ending false r)) (scene false t)
+abbrev walk_rest : Row → List ℕ → Answer C.Viewed
+walk_rest l t = after (λ c r. mapped (λ e. C.viewed l c.sight e.map c.list e.sparse) (C.ending false r)) (scene false t)
 
-partition-is : (t : List ℕ) → Same (View~ K.Partition) ((N.partition-inside).read t) (bare false t)
-partition-is t = along (λ v x. mapped (λ e. N.sighted K.Partition v.list v.sight e.items [] (pos 0)) ((N.map-part).read x))
-    (λ c r. mapped (λ e. C.viewed c.list c.sight e.map nothing e.sparse) (C.ending false r)) (tile-scene-is t)
-    (λ v c r h. convey (λ e. N.sighted K.Partition v.list v.sight e.items [] (pos 0)) (λ e. C.viewed c.list c.sight e.map nothing e.sparse) (map-end-is r)
+partition_is : (t : List ℕ) → Same (View~ K.Partition) ((N.partition_inside).read t) (bare false t)
+partition_is t = along (λ v x. mapped (λ e. N.sighted K.Partition v.list v.sight e.items [] (pos 0)) ((N.map_part).read x))
+    (λ c r. mapped (λ e. C.viewed c.list c.sight e.map nothing e.sparse) (C.ending false r)) (tile_scene_is t)
+    (λ v c r h. convey (λ e. N.sighted K.Partition v.list v.sight e.items [] (pos 0)) (λ e. C.viewed c.list c.sight e.map nothing e.sparse) (map_end_is r)
     (λ e m q. view~ K.Partition v.list e.items [] v.sight (pos 0) c.sight c.list m.map nothing m.sparse h.list h.sight q.map refl q.sparse))
 
-gather-is : (t : List ℕ) → Same (View~ K.GatherScatter) ((N.gather-inside).read t) (bare true t)
-gather-is t = along (λ v x. mapped (λ z. N.sighted K.GatherScatter v.list v.sight [] [] z) ((N.sparse-part).read x))
-    (λ c r. mapped (λ e. C.viewed c.list c.sight e.map nothing e.sparse) (C.ending true r)) (tile-scene-is t)
-    (λ v c r h. convey (λ z. N.sighted K.GatherScatter v.list v.sight [] [] z) (λ e. C.viewed c.list c.sight e.map nothing e.sparse) (sparse-end-is r)
+gather_is : (t : List ℕ) → Same (View~ K.GatherScatter) ((N.gather_inside).read t) (bare true t)
+gather_is t = along (λ v x. mapped (λ z. N.sighted K.GatherScatter v.list v.sight [] [] z) ((N.sparse_part).read x))
+    (λ c r. mapped (λ e. C.viewed c.list c.sight e.map nothing e.sparse) (C.ending true r)) (tile_scene_is t)
+    (λ v c r h. convey (λ z. N.sighted K.GatherScatter v.list v.sight [] [] z) (λ e. C.viewed c.list c.sight e.map nothing e.sparse) (sparse_end_is r)
     (λ z m q. view~ K.GatherScatter v.list [] [] v.sight z c.sight c.list m.map nothing m.sparse h.list h.sight q.map refl q.sparse))
 
-walk-rest-is : (tl : List ℤ) (t : List ℕ) → Same (View~ K.Strided) ((N.walk-rest tl).read t) (walk-rest (pushes nothing tl) t)
-walk-rest-is tl t = along (λ v x. mapped (λ e. N.sighted K.Strided tl v.sight e.items v.list (pos 0)) ((N.map-part).read x))
-    (λ c r. mapped (λ e. C.viewed (pushes nothing tl) c.sight e.map c.list e.sparse) (C.ending false r)) (walk-scene-is t)
-    (λ v c r h. convey (λ e. N.sighted K.Strided tl v.sight e.items v.list (pos 0)) (λ e. C.viewed (pushes nothing tl) c.sight e.map c.list e.sparse) (map-end-is r)
+walk_rest_is : (tl : List ℤ) (t : List ℕ) → Same (View~ K.Strided) ((N.walk_rest tl).read t) (walk_rest (pushes nothing tl) t)
+walk_rest_is tl t = along (λ v x. mapped (λ e. N.sighted K.Strided tl v.sight e.items v.list (pos 0)) ((N.map_part).read x))
+    (λ c r. mapped (λ e. C.viewed (pushes nothing tl) c.sight e.map c.list e.sparse) (C.ending false r)) (walk_scene_is t)
+    (λ v c r h. convey (λ e. N.sighted K.Strided tl v.sight e.items v.list (pos 0)) (λ e. C.viewed (pushes nothing tl) c.sight e.map c.list e.sparse) (map_end_is r)
     (λ e m q. view~ K.Strided tl e.items v.list v.sight (pos 0) c.sight (pushes nothing tl) m.map c.list m.sparse refl h.sight q.map h.list q.sparse))
 
 abbrev travel : Piece false (bytes ")") (Unit {0}) quiet
-travel = chosen quiet (bytes ")") N.travel-word (λ (s : Bool). tt) two in_two tt
+travel = chosen quiet (bytes ")") N.travel_word (λ (s : Bool). tt) two in_two tt
 
 abbrev strided : List ℕ → Answer C.Viewed
-strided t = after (λ l r. after (λ (k : ℕ) x. walk-rest l x) (choose C.travels r)) (C.entries true t)
+strided t = after (λ l r. after (λ (k : ℕ) x. walk_rest l x) (choose C.travels r)) (C.entries true t)
 
-strided-is : (t : List ℕ) → Same (View~ K.Strided) ((N.strided-inside).read t) (strided t)
-strided-is t = subst (λ (p : Answer (Ended ℤ (Unit {0}))). Same (View~ K.Strided) (after (λ e. (N.walk-rest e.items).read) p) (strided t)) (sym (entry-list travel tt tt refl tt t))
-    (ended-then travel.read (choose C.travels) (λ x. label (λ (k : ℕ). tt) (travel.read x) (choose C.travels x) (choose-label (λ (k : ℕ). tt) C.travels x))
-    (λ e. (N.walk-rest e.items).read) (λ l (k : ℕ) x. walk-rest l x) (λ zs b k x h. walk-rest-is zs x) (list32 true t))
+strided_is : (t : List ℕ) → Same (View~ K.Strided) ((N.strided_inside).read t) (strided t)
+strided_is t = subst (λ (p : Answer (Ended ℤ (Unit {0}))). Same (View~ K.Strided) (after (λ e. (N.walk_rest e.items).read) p) (strided t)) (sym (entry_list travel tt tt refl tt t))
+    (ended_then travel.read (choose C.travels) (λ x. label (λ (k : ℕ). tt) (travel.read x) (choose C.travels x) (choose_label (λ (k : ℕ). tt) C.travels x))
+    (λ e. (N.walk_rest e.items).read) (λ l (k : ℕ) x. walk_rest l x) (λ zs b k x h. walk_rest_is zs x) (list32 true t))
 
 -- ── the views as the code reads them: one part after another ──
 module _ (k : Kind) (m : List ℕ → Answer ℕ) (e : List ℕ → Answer C.Closed) (h : Row → C.Seen → C.Closed → C.Viewed) where
-  abbrev last-part : Row → C.Seen → List ℕ → Answer Entire
-  last-part l v z = mapped (λ c. view-of k (h l v c)) (e z)
+  abbrev last_part : Row → C.Seen → List ℕ → Answer Entire
+  last_part l v z = mapped (λ c. view_of k (h l v c)) (e z)
 
-  abbrev ended-with : Staged → List ℕ → Answer C.Viewed
-  ended-with c r = mapped (h c.list c.sight) (e r)
+  abbrev ended_with : Staged → List ℕ → Answer C.Viewed
+  ended_with c r = mapped (h c.list c.sight) (e r)
 
   flat : (p : Answer Row) →
-      mapped (view-of k) (after ended-with (after (λ l r. after (λ j y. mapped (stage' l) (C.sight j y)) (m r)) p)) ≡ after (λ l r. after (λ j y. after (last-part l) (C.sight j y)) (m r)) p
-  flat (got l r) = on-mid (m r)
+      mapped (view_of k) (after ended_with (after (λ l r. after (λ j y. mapped (stage' l) (C.sight j y)) (m r)) p)) ≡ after (λ l r. after (λ j y. after (last_part l) (C.sight j y)) (m r)) p
+  flat (got l r) = on_mid (m r)
     where
-      on-end : (v : C.Seen) (q : Answer C.Closed) → mapped (view-of k) (mapped (h l v) q) ≡ mapped (λ c. view-of k (h l v c)) q
-      on-end v (got c z) = refl
-      on-end v (stuck z) = refl
+      on_end : (v : C.Seen) (q : Answer C.Closed) → mapped (view_of k) (mapped (h l v) q) ≡ mapped (λ c. view_of k (h l v c)) q
+      on_end v (got c z) = refl
+      on_end v (stuck z) = refl
 
-      on-sight : (q : Answer C.Seen) → mapped (view-of k) (after ended-with (mapped (stage' l) q)) ≡ after (last-part l) q
-      on-sight (got v z) = on-end v (e z)
-      on-sight (stuck z) = refl
+      on_sight : (q : Answer C.Seen) → mapped (view_of k) (after ended_with (mapped (stage' l) q)) ≡ after (last_part l) q
+      on_sight (got v z) = on_end v (e z)
+      on_sight (stuck z) = refl
 
-      on-mid : (q : Answer ℕ) → mapped (view-of k) (after ended-with (after (λ j y. mapped (stage' l) (C.sight j y)) q)) ≡ after (λ j y. after (last-part l) (C.sight j y)) q
-      on-mid (got j y) = on-sight (C.sight j y)
-      on-mid (stuck y) = refl
+      on_mid : (q : Answer ℕ) → mapped (view_of k) (after ended_with (after (λ j y. mapped (stage' l) (C.sight j y)) q)) ≡ after (λ j y. after (last_part l) (C.sight j y)) q
+      on_mid (got j y) = on_sight (C.sight j y)
+      on_mid (stuck y) = refl
   flat (stuck r) = refl
 
-bare-view : (k : Kind) (b : Bool) (t : List ℕ) → mapped (view-of k) (bare b t) ≡ view k true b t
+bare_view : (k : Kind) (b : Bool) (t : List ℕ) → mapped (view_of k) (bare b t) ≡ view k true b t
 unfolding C.walking
-bare-view k b t = flat k (C.mid true) (C.ending b) (λ l v c. C.viewed l v c.map nothing c.sparse) (C.entries true t)
+bare_view k b t = flat k (C.mid true) (C.ending b) (λ l v c. C.viewed l v c.map nothing c.sparse) (C.entries true t)
 
-strided-view : (t : List ℕ) → mapped (view-of K.Strided) (strided t) ≡ view K.Strided false false t
+strided_view : (t : List ℕ) → mapped (view_of K.Strided) (strided t) ≡ view K.Strided false false t
 unfolding C.walking
-strided-view t = on (C.entries true t)
+strided_view t = on (C.entries true t)
   where
     part : Row → Row → List ℕ → Answer Entire
-    part l w x = after (λ j y. after (λ v z. mapped (λ c. view-of K.Strided (C.viewed l v c.map w c.sparse)) (C.ending false z)) (C.sight j y)) (C.mid false x)
+    part l w x = after (λ j y. after (λ v z. mapped (λ c. view_of K.Strided (C.viewed l v c.map w c.sparse)) (C.ending false z)) (C.sight j y)) (C.mid false x)
 
-    on_word : (l : Row) (q : Answer ℕ) → mapped (view-of K.Strided) (after (λ (k : ℕ) x. walk-rest l x) q) ≡ after (part l) (after (λ (k : ℕ) x. C.entries false x) q)
+    on_word : (l : Row) (q : Answer ℕ) → mapped (view_of K.Strided) (after (λ (k : ℕ) x. walk_rest l x) q) ≡ after (part l) (after (λ (k : ℕ) x. C.entries false x) q)
     on_word l (got n x) = flat K.Strided (C.mid false) (C.ending false) (λ w v c. C.viewed l v c.map w c.sparse) (C.entries false x)
     on_word l (stuck x) = refl
 
-    on : (p : Answer Row) → mapped (view-of K.Strided) (after (λ l r. after (λ (k : ℕ) x. walk-rest l x) (choose C.travels r)) p)
+    on : (p : Answer Row) → mapped (view_of K.Strided) (after (λ l r. after (λ (k : ℕ) x. walk_rest l x) (choose C.travels r)) p)
         ≡ after (λ l r. after (part l) (after (λ (k : ℕ) x. C.entries false x) (choose C.travels r))) p
     on (got l r) = on_word l (choose C.travels r)
     on (stuck r) = refl
 
 -- each of the three, and its piece
 module _ (r : List ℕ) where
-  viewed-is : (k : Kind) {p : Answer Any} {q : Answer C.Viewed} (w : Answer Entire) → mapped (view-of k) q ≡ w → Same (View~ k) p q → Same (λ a c. seen a ≡ said c) (mapped B.id p) w
-  viewed-is k {p} w e s = subst (Same (λ a c. seen a ≡ said c) (mapped B.id p)) e (convey B.id (view-of k) s (λ a c h. h))
+  viewed_is : (k : Kind) {p : Answer Any} {q : Answer C.Viewed} (w : Answer Entire) → mapped (view_of k) q ≡ w → Same (View~ k) p q → Same (λ a c. seen a ≡ said c) (mapped B.id p) w
+  viewed_is k {p} w e s = subst (Same (λ a c. seen a ≡ said c) (mapped B.id p)) e (convey B.id (view_of k) s (λ a c h. h))
 
-  pub partition-view-is : Same (λ a c. seen a ≡ said c) (mapped B.id ((N.partition-inside).read r)) (view K.Partition true false r)
-  partition-view-is = viewed-is K.Partition (view K.Partition true false r) (bare-view K.Partition false r) (partition-is r)
+  pub partition_view_is : Same (λ a c. seen a ≡ said c) (mapped B.id ((N.partition_inside).read r)) (view K.Partition true false r)
+  partition_view_is = viewed_is K.Partition (view K.Partition true false r) (bare_view K.Partition false r) (partition_is r)
 
-  pub gather-view-is : Same (λ a c. seen a ≡ said c) (mapped B.id ((N.gather-inside).read r)) (view K.GatherScatter true true r)
-  gather-view-is = viewed-is K.GatherScatter (view K.GatherScatter true true r) (bare-view K.GatherScatter true r) (gather-is r)
+  pub gather_view_is : Same (λ a c. seen a ≡ said c) (mapped B.id ((N.gather_inside).read r)) (view K.GatherScatter true true r)
+  gather_view_is = viewed_is K.GatherScatter (view K.GatherScatter true true r) (bare_view K.GatherScatter true r) (gather_is r)
 
-  pub strided-view-is : Same (λ a c. seen a ≡ said c) (mapped B.id ((N.strided-inside).read r)) (view K.Strided false false r)
-  strided-view-is = viewed-is K.Strided (view K.Strided false false r) (strided-view r) (strided-is r)
+  pub strided_view_is : Same (λ a c. seen a ≡ said c) (mapped B.id ((N.strided_inside).read r)) (view K.Strided false false r)
+  strided_view_is = viewed_is K.Strided (view K.Strided false false r) (strided_view r) (strided_is r)

@@ -12,25 +12,25 @@ use Rattle.grammar.specs.Piece.{Answer, got, stuck, member, Piece}
 use Rattle.grammar.specs.Join.{mapped, after}
 use Rattle.grammar.specs.Table.{pick, ◌↝◌}
 use Rattle.grammar.specs.Number as N
-use Rattle.grammar.specs.Number.{digits-after}
+use Rattle.grammar.specs.Number.{digits_after}
 use Rattle.grammar.specs.Several.{num32, dim64, item, x32, dimx, same, figs?}
 use Rattle.strict.specs.Cursor as C
-use Rattle.strict.specs.Rows.{more, rows, commas32, xs32, parts32, commas64, dims64, dim-x}
+use Rattle.strict.specs.Rows.{more, rows, commas32, xs32, parts32, commas64, dims64, dim_x}
 use Rattle.strict.specs.Words.{choose}
 use Rattle.strict.proofs.Rows.{turn, less}
-use Rattle.strict.proofs.Picking.{choose-label}
+use Rattle.strict.proofs.Picking.{choose_label}
 
-pick-done : {A : Type 0} (a : A) (t : List ℕ) → pick t (([] ↝ a) ∷ []) ≡ got a t
-pick-done a [] = refl
-pick-done a (c ∷ t) = refl
+pick_done : {A : Type 0} (a : A) (t : List ℕ) → pick t (([] ↝ a) ∷ []) ≡ got a t
+pick_done a [] = refl
+pick_done a (c ∷ t) = refl
 
 minus_is : (n : ℕ) → N.minus n ≡ C.minus n
 minus_is zero = refl
 minus_is (suc n) = refl
 
-mapped-minus : (p : Answer ℕ) → mapped N.minus p ≡ mapped C.minus p
-mapped-minus (got n r) = ap (λ (z : ℤ). got z r) (minus_is n)
-mapped-minus (stuck r) = refl
+mapped_minus : (p : Answer ℕ) → mapped N.minus p ≡ mapped C.minus p
+mapped_minus (got n r) = ap (λ (z : ℤ). got z r) (minus_is n)
+mapped_minus (stuck r) = refl
 
 -- ── a numeral ──
 module _ (p q : ℕ) (wide : T (lib.Dec.ltb 9 p)) (wide' : T (lib.Dec.ltb 9 (suc q))) where
@@ -48,43 +48,43 @@ module _ (p q : ℕ) (wide : T (lib.Dec.ltb 9 p)) (wide' : T (lib.Dec.ltb 9 (suc
       plain = mapped pos (N.magnitude p (c ∷ t))
 
       at_zero : (k : Bool) → (T k → c ≡ 48) → cond (k || false) (zer (c ∷ t)) plain ≡ cond k (got (pos 0) t) plain
-      at_zero true f = ap (λ (z : ℕ). zer (z ∷ t)) (f tt) ∙ pick-done (pos 0) t
+      at_zero true f = ap (λ (z : ℕ). zer (z ∷ t)) (f tt) ∙ pick_done (pos 0) t
       at_zero false f = refl
 
       by : (k : Bool) → (T k → c ≡ 45) → cond (k || false) (neg (c ∷ t)) (cond (eqb c 48 || false) (zer (c ∷ t)) plain)
           ≡ cond k (mapped C.minus (N.magnitude (suc q) t)) (cond (eqb c 48) (got (pos 0) t) plain)
-      by true f = ap (λ (z : ℕ). neg (z ∷ t)) (f tt) ∙ ap (after (λ (u : Unit {0}) r. mapped N.minus (N.magnitude (suc q) r))) (pick-done tt t) ∙ mapped-minus (N.magnitude (suc q) t)
+      by true f = ap (λ (z : ℕ). neg (z ∷ t)) (f tt) ∙ ap (after (λ (u : Unit {0}) r. mapped N.minus (N.magnitude (suc q) r))) (pick_done tt t) ∙ mapped_minus (N.magnitude (suc q) t)
       by false f = at_zero (eqb c 48) (eqb→eq c 48)
 
-pub num-is : (t : List ℕ) → num32.read t ≡ C.numeral (2 ^ 31) (2 ^ 31 + 1) t
-num-is t = number_is (2 ^ 31) (2 ^ 31) tt tt t
+pub num_is : (t : List ℕ) → num32.read t ≡ C.numeral (2 ^ 31) (2 ^ 31 + 1) t
+num_is t = number_is (2 ^ 31) (2 ^ 31) tt tt t
 
-pub dim-is : (t : List ℕ) → dim64.read t ≡ C.dimension t
-dim-is [] = refl
-dim-is (c ∷ t) = by (eqb c 63) (eqb→eq c 63)
+pub dim_is : (t : List ℕ) → dim64.read t ≡ C.dimension t
+dim_is [] = refl
+dim_is (c ∷ t) = by (eqb c 63) (eqb→eq c 63)
   where
     free : List ℕ → Answer ℤ
     free x = pick x ((bytes "?" ↝ negsuc (2 ^ 63 - 1)) ∷ [])
 
     by : (k : Bool) → (T k → c ≡ 63) → cond (k || false) (free (c ∷ t)) ((N.number (2 ^ 63) (2 ^ 63 - 1) tt tt).read (c ∷ t)) ≡ cond k (got (negsuc (2 ^ 63 - 1)) t) (C.numeral (2 ^ 63) (2 ^ 63) (c ∷ t))
-    by true f = ap (λ (z : ℕ). free (z ∷ t)) (f tt) ∙ pick-done (negsuc (2 ^ 63 - 1)) t
+    by true f = ap (λ (z : ℕ). free (z ∷ t)) (f tt) ∙ pick_done (negsuc (2 ^ 63 - 1)) t
     by false f = number_is (2 ^ 63) (2 ^ 63 - 1) tt tt (c ∷ t)
 
 -- ── items ──
 -- an entry of 32 bits after a comma, and a dimension after one
-abbrev pub item32 : Piece false (bytes ",") ℤ digits-after
+abbrev pub item32 : Piece false (bytes ",") ℤ digits_after
 item32 = item num32 tt in32 decimal same (λ a t i. i) (λ a t i. i)
 
-abbrev pub item64 : Piece false (bytes ",") ℤ digits-after
+abbrev pub item64 : Piece false (bytes ",") ℤ digits_after
 item64 = item dim64 tt in64 dim size (λ a t i. i) (λ a t i. i)
 
 -- a comma was read
-space-is : (t : List ℕ) → pick t (([] ↝ tt {0}) ∷ (bytes " " ↝ tt) ∷ []) ≡ got tt (C.skip t)
-space-is [] = refl
-space-is (c ∷ t) = by (eqb 32 c)
+space_is : (t : List ℕ) → pick t (([] ↝ tt {0}) ∷ (bytes " " ↝ tt) ∷ []) ≡ got tt (C.skip t)
+space_is [] = refl
+space_is (c ∷ t) = by (eqb 32 c)
   where
     by : (k : Bool) → ◌≡◌ {A = Answer (Unit {0})} (elim (cond k (([] ↝ tt {0}) ∷ []) [] ++ []) as (λ _. Answer (Unit {0})) [ [] ↦ got tt (c ∷ t) | e ∷ fs ↦ pick t (e ∷ fs) ]) (got tt (cond k t (c ∷ t)))
-    by true = pick-done tt t
+    by true = pick_done tt t
     by false = refl
 
 -- what the items read, and the list from there
@@ -99,14 +99,14 @@ pub record Parts (f : List ℕ → Answer (List ℤ)) (F : List ℕ) (g : List �
   pub shorter : (c : ℕ) (t r : List ℕ) (z : ℤ) → member c F ≡ true → g (c ∷ t) ≡ got z r → length r < length (c ∷ t)
 
 module _ {F : List ℕ} {E : ℤ → List ℕ} (P : Piece false F ℤ E) where
-  abbrev goes-if : ℕ → List ℕ → Bool → Answer (List ℤ)
-  goes-if c t k = cond k (goes (rows P) (P.read (c ∷ t))) (got [] (c ∷ t))
+  abbrev goes_if : ℕ → List ℕ → Bool → Answer (List ℤ)
+  goes_if c t k = cond k (goes (rows P) (P.read (c ∷ t))) (got [] (c ∷ t))
 
   of : (g : List ℕ → Answer ℤ) → ((c : ℕ) (t : List ℕ) → member c F ≡ true → P.read (c ∷ t) ≡ g (c ∷ t)) → Parts (rows P) F g
   of g r = record {
     nil = refl;
-    off = λ c t h. turn P c t ∙ ap (goes-if c t) h;
-    on = λ c t h. turn P c t ∙ ap (goes-if c t) h ∙ ap (goes (rows P)) (r c t h);
+    off = λ c t h. turn P c t ∙ ap (goes_if c t) h;
+    on = λ c t h. turn P c t ∙ ap (goes_if c t) h ∙ ap (goes (rows P)) (r c t h);
     shorter = λ c t u z h e. less P (c ∷ t) u z (r c t h ∙ e);
   }
 
@@ -119,23 +119,23 @@ module _ (d : ℕ) (f : List ℕ → Answer ℤ) (x : Bool) (g : List ℕ → An
       by true e m = ap (λ (z : ℕ). f (z ∷ t)) (e tt) ∙ h t
       by false e m = let z : T false = subst T (sym m) tt in absurd z
 
-pub parts32-are : (x : Bool) → Parts (parts32 x) (cond x 120 44 ∷ []) (λ t. C.numeral (2 ^ 31) (2 ^ 31 + 1) (C.gap x (drop 1 t)))
+pub parts32_are : (x : Bool) → Parts (parts32 x) (cond x 120 44 ∷ []) (λ t. C.numeral (2 ^ 31) (2 ^ 31 + 1) (C.gap x (drop 1 t)))
 unfolding commas32 xs32
-parts32-are false = of item32 _ (behind 44 item32.read false (C.numeral (2 ^ 31) (2 ^ 31 + 1)) (λ t. ap (after (λ (u : Unit {0}). num32.read)) (space-is t) ∙ num-is (C.skip t)))
-parts32-are true = of x32 _ (behind 120 x32.read true (C.numeral (2 ^ 31) (2 ^ 31 + 1)) (λ t. ap (after (λ (u : Unit {0}). num32.read)) (pick-done tt t) ∙ num-is t))
+parts32_are false = of item32 _ (behind 44 item32.read false (C.numeral (2 ^ 31) (2 ^ 31 + 1)) (λ t. ap (after (λ (u : Unit {0}). num32.read)) (space_is t) ∙ num_is (C.skip t)))
+parts32_are true = of x32 _ (behind 120 x32.read true (C.numeral (2 ^ 31) (2 ^ 31 + 1)) (λ t. ap (after (λ (u : Unit {0}). num32.read)) (pick_done tt t) ∙ num_is t))
 
-pub commas64-are : Parts commas64 (44 ∷ []) (λ t. C.dimension (C.gap false (drop 1 t)))
+pub commas64_are : Parts commas64 (44 ∷ []) (λ t. C.dimension (C.gap false (drop 1 t)))
 unfolding commas64
-commas64-are = of item64 _ (behind 44 item64.read false C.dimension (λ t. ap (after (λ (u : Unit {0}). dim64.read)) (space-is t) ∙ dim-is (C.skip t)))
+commas64_are = of item64 _ (behind 44 item64.read false C.dimension (λ t. ap (after (λ (u : Unit {0}). dim64.read)) (space_is t) ∙ dim_is (C.skip t)))
 
 -- ── a dimension and an `x` ──
-dimx-is : (t : List ℕ) → dimx.read t ≡ dim-x t
-dimx-is t = ap (after (λ (z : ℤ) r. pick r ((bytes "x" ↝ z) ∷ []))) (dim-is t) ∙ by (C.dimension t)
+dimx_is : (t : List ℕ) → dimx.read t ≡ dim_x t
+dimx_is t = ap (after (λ (z : ℤ) r. pick r ((bytes "x" ↝ z) ∷ []))) (dim_is t) ∙ by (C.dimension t)
   where
     by : (p : Answer ℤ) → after (λ (z : ℤ) r. pick r ((bytes "x" ↝ z) ∷ [])) p ≡ after (λ (z : ℤ) r. mapped (λ (k : ℕ). z) (choose (bytes "x|") r)) p
-    by (got z r) = choose-label (λ (k : ℕ). z) (bytes "x|") r
+    by (got z r) = choose_label (λ (k : ℕ). z) (bytes "x|") r
     by (stuck r) = refl
 
-pub dims64-are : Parts dims64 figs? dim-x
+pub dims64_are : Parts dims64 figs? dim_x
 unfolding dims64
-dims64-are = of dimx dim-x (λ c t m. dimx-is (c ∷ t))
+dims64_are = of dimx dim_x (λ c t m. dimx_is (c ∷ t))

@@ -17,14 +17,14 @@ use Rattle.meaning.specs.declared.Reading.{Reading}
 use Rattle.meaning.specs.declared.Refusal.TheVariants.{Accepted, TooLong, HighByte, NotStrict, TooMany}
 use Rattle.meaning.specs.Found.{padded}
 use Rattle.meaning.specs.Refusals.{number}
-use Rattle.meaning.specs.Ordinary.{high-from, refused}
-use Rattle.meaning.specs.Meant.{Any, fits, flat-any, taken, Strictly}
+use Rattle.meaning.specs.Ordinary.{high_from, refused}
+use Rattle.meaning.specs.Meant.{Any, fits, flat_any, taken, Strictly}
 use Rattle.meaning.specs.Strict.{nth}
 use Rattle.grammar.specs.Piece.{Answer, got, stuck}
 use Rattle.grammar.specs.Join.{mapped}
 use Rattle.grammar.specs.Whole as G
-use Rattle.grammar.proofs.Answer.{judge, answer, answer-ascii, answer-right}
-use Rattle.grammar.proofs.Printed.{strict-low}
+use Rattle.grammar.proofs.Answer.{judge, answer, answer_ascii, answer_right}
+use Rattle.grammar.proofs.Printed.{strict_low}
 use Rattle.strict.specs.Cursor.{valued}
 use Rattle.strict.specs.Lists.{Row, nothing, pushes}
 use Rattle.strict.specs.Whole as W
@@ -39,10 +39,10 @@ module _ {A : Type 0} (d : A) where
   nth_in x (y ∷ ys) zero h = refl
   nth_in x (y ∷ ys) (suc i) h = nth_in x ys i (omega arith)
 
-  pub nth-out : (xs : List A) (i : ℕ) → length xs ≤ i → d ≡ nth d xs i
-  nth-out [] i h = refl
-  nth-out (x ∷ xs) zero h = let f : ⊥ = omega arith in absurd f
-  nth-out (x ∷ xs) (suc i) h = nth-out xs i (omega arith)
+  pub nth_out : (xs : List A) (i : ℕ) → length xs ≤ i → d ≡ nth d xs i
+  nth_out [] i h = refl
+  nth_out (x ∷ xs) zero h = let f : ⊥ = omega arith in absurd f
+  nth_out (x ∷ xs) (suc i) h = nth_out xs i (omega arith)
 
 -- ── rows ──
 
@@ -64,8 +64,8 @@ row_is zs = rows [] zs
 
 -- ── what the grammar's type is laid out and judged as ──
 
-record_is : (a : Any) → P.record_of (P.seen a) ≡ flat-any 8 a
-unfolding flat-any
+record_is : (a : Any) → P.record_of (P.seen a) ≡ flat_any 8 a
+unfolding flat_any
 record_is a = λ i. record {
   kind = a.kind;
   element = a.element;
@@ -91,14 +91,14 @@ small_is a = λ i.
     leb (row_is a.shape i).len 8 && leb (row_is a.strides i).len 8 && leb (row_is a.tile i).len 8
     && leb (row_is a.map i).len 8 && leb (row_is a.traversal i).len 8
 
-accepted-is : (a : Any) → P.accepted (P.seen a) ≡ taken 8 a
+accepted_is : (a : Any) → P.accepted (P.seen a) ≡ taken 8 a
 unfolding taken
-accepted-is a = λ i. record { refusal = Accepted; place = 0; value = record_is a i; note = record { a = 0; b = 0; c = 0; d = 0 } }
+accepted_is a = λ i. record { refusal = Accepted; place = 0; value = record_is a i; note = record { a = 0; b = 0; c = 0; d = 0 } }
 
-judged-is : (p : Answer Any) → P.judged (mapped P.seen p) ≡ judge 8 p
-judged-is (got a []) = λ i. if small_is a i then accepted-is a i else refused 8 TooMany 0
-judged-is (got a (c ∷ r)) = refl
-judged-is (stuck r) = refl
+judged_is : (p : Answer Any) → P.judged (mapped P.seen p) ≡ judge 8 p
+judged_is (got a []) = λ i. if small_is a i then accepted_is a i else refused 8 TooMany 0
+judged_is (got a (c ∷ r)) = refl
+judged_is (stuck r) = refl
 
 -- ── what the code read ──
 
@@ -119,9 +119,9 @@ module _ (e : W.Entire) where
     padding = p;
   }
 
-  pub laid-is : {k : Scalar} {z : ℤ} {p : Padding} → k ≡ P.scalar e.word → z ≡ e.sparse → p ≡ P.padding e.padded e.pad
+  pub laid_is : {k : Scalar} {z : ℤ} {p : Padding} → k ≡ P.scalar e.word → z ≡ e.sparse → p ≡ P.padding e.padded e.pad
       → P.record_of (made k z p) ≡ P.record_of (P.said e)
-  laid-is f g h = λ i. P.record_of (made (f i) (g i) (h i))
+  laid_is f g h = λ i. P.record_of (made (f i) (g i) (h i))
 
 -- up to its end
 module _ (s : Text) (e : W.Entire) (d : ℕ) where
@@ -149,31 +149,31 @@ Bridge = (t : List ℕ) → mapped P.seen (G.read t) ≡ mapped P.said (W.whole 
 
 module _ (s : Text) {r : Reading} where
   pub strictly : r ≡ answer 8 1024 s → Strictly 8 1024 s r
-  strictly e = subst (λ (x : Reading). Strictly 8 1024 s x) (sym e) (answer-right 8 1024 s)
+  strictly e = subst (λ (x : Reading). Strictly 8 1024 s x) (sym e) (answer_right 8 1024 s)
 
   pub too_long : 1024 < length s → r ≡ refused 8 TooLong 0 → r ≡ answer 8 1024 s
   unfolding answer
   too_long h e = rw (lt-leb (length s) 1024 h) e
 
-  ascii : length s ≤ 1024 → r ≡ answer-ascii 8 s (high-from 0 s) → r ≡ answer 8 1024 s
+  ascii : length s ≤ 1024 → r ≡ answer_ascii 8 s (high_from 0 s) → r ≡ answer 8 1024 s
   unfolding answer
   ascii h e = rw (le-leb (length s) 1024 h) e
 
-  pub high-at : (i : ℕ) → length s ≤ 1024 → high-from 0 s ≡ some i → r ≡ refused 8 HighByte i → r ≡ answer 8 1024 s
-  high-at i h k e = ascii h (e ∙ sym (ap (answer-ascii 8 s) k))
+  pub high_at : (i : ℕ) → length s ≤ 1024 → high_from 0 s ≡ some i → r ≡ refused 8 HighByte i → r ≡ answer 8 1024 s
+  high_at i h k e = ascii h (e ∙ sym (ap (answer_ascii 8 s) k))
 
-  pub read-on : Bridge → length s ≤ 1024 → high-from 0 s ≡ none → r ≡ P.judged (mapped P.said (W.whole s)) → r ≡ answer 8 1024 s
-  read-on bridge h k e = ascii h (e ∙ sym (ap P.judged (bridge s)) ∙ judged-is (G.read s) ∙ sym (ap (answer-ascii 8 s) k))
+  pub read_on : Bridge → length s ≤ 1024 → high_from 0 s ≡ none → r ≡ P.judged (mapped P.said (W.whole s)) → r ≡ answer 8 1024 s
+  read_on bridge h k e = ascii h (e ∙ sym (ap P.judged (bridge s)) ∙ judged_is (G.read s) ∙ sym (ap (answer_ascii 8 s) k))
 
   -- what is accepted is a strict form, and has no high byte
-  pub taken-on : Bridge → length s ≤ 1024 → number r.refusal ≡ 0 → r ≡ P.judged (mapped P.said (W.whole s)) → r ≡ answer 8 1024 s
+  pub taken_on : Bridge → length s ≤ 1024 → number r.refusal ≡ 0 → r ≡ P.judged (mapped P.said (W.whole s)) → r ≡ answer 8 1024 s
   unfolding refused
-  taken-on bridge h n e = read-on bridge h (low (G.read s) refl (ap (λ (x : Reading). number x.refusal) (sym (e ∙ sym (ap P.judged (bridge s)) ∙ judged-is (G.read s))) ∙ n)) e
+  taken_on bridge h n e = read_on bridge h (low (G.read s) refl (ap (λ (x : Reading). number x.refusal) (sym (e ∙ sym (ap P.judged (bridge s)) ∙ judged_is (G.read s))) ∙ n)) e
     where
       five : ◌≡◌ {A = ℕ} 5 0 → ⊥
       five z = omega arith
 
-      low : (p : Answer Any) → G.read s ≡ p → number (judge 8 p).refusal ≡ 0 → high-from 0 s ≡ none
-      low (got a []) q z = strict-low s a (G.strict-sound s a q)
+      low : (p : Answer Any) → G.read s ≡ p → number (judge 8 p).refusal ≡ 0 → high_from 0 s ≡ none
+      low (got a []) q z = strict_low s a (G.strict_sound s a q)
       low (got a (c ∷ x)) q z = absurd (five z)
       low (stuck x) q z = absurd (five z)

@@ -15,7 +15,7 @@ use Rattle.strict.specs.Rows.{more}
 use Rattle.strict.specs.Lists.{Row, row, nothing, pushed, pushes}
 use Rattle.strict.specs.Cursor.{Told, Spaced, place, gap}
 use Rattle.strict.specs.Words.{next}
-use Rattle.strict.proofs.Cursors.{valued_past, valued-off, place-past, past, begin}
+use Rattle.strict.proofs.Cursors.{valued_past, valued_off, place_past, past, begin}
 use Rattle.lexis.proofs.Lists.{view}
 use Rattle.strict.proofs.Items.{goes, Parts}
 
@@ -51,7 +51,7 @@ module _ {f : List ℕ → Answer (List ℤ)} {F : List ℕ} {g : List ℕ → A
 
     pub sticks : {v : ℤ} {e : ℕ} → Told s i (g (drop i s)) v e → length s < e → Told s at (mapped (pushes first) (f (drop at s))) (row out n) e
     sticks {v} {e} q k = let o = q.onward in let p = r.onward in record {
-      same = r.same ∙ ap (mapped (pushes (row out n))) (item ∙ ap (goes f) (q.same ∙ valued-off s v e k)) ∙ sym (valued-off s (row out n) e k);
+      same = r.same ∙ ap (mapped (pushes (row out n))) (item ∙ ap (goes f) (q.same ∙ valued_off s v e k)) ∙ sym (valued_off s (row out n) e k);
       inside = q.inside;
       onward = omega arith;
     }
@@ -90,9 +90,9 @@ module _ (f : List ℕ → Answer (List ℤ)) (g : List ℕ → Answer ℤ) {s :
   abbrev whole : List ℕ → Answer Row
   whole t = mapped (pushes nothing) (goes f (g t))
 
-  pub no-first : length s < d → (l : Row) → Told s (place s from) (next s whole from) l d
-  no-first k l = begin s whole from h (record {
-    same = ap (λ p. mapped (pushes nothing) (goes f p)) (q.same ∙ valued-off s v d k) ∙ sym (valued-off s l d k);
+  pub no_first : length s < d → (l : Row) → Told s (place s from) (next s whole from) l d
+  no_first k l = begin s whole from h (record {
+    same = ap (λ p. mapped (pushes nothing) (goes f p)) (q.same ∙ valued_off s v d k) ∙ sym (valued_off s l d k);
     inside = q.inside;
     onward = q.onward;
   })
@@ -101,7 +101,7 @@ module _ (f : List ℕ → Answer (List ℤ)) (g : List ℕ → Answer ℤ) {s :
       Told s (place s from) (next s whole from) l e
   led k {out} {x} o c w {p} j {l} {e} r =
       let m : row x 1 ≡ pushed nothing v = stored out 0 c w ∙ ap (λ (y : List ℤ). pushed (row y 0) v) o in
-      let y = q.onward in let z = r.onward in let b = place-past s d k in
+      let y = q.onward in let z = r.onward in let b = place_past s d k in
       begin s whole from h (record {
         same = ap (λ p. mapped (pushes nothing) (goes f p)) (q.same ∙ valued_past s v d k) ∙ pour nothing v (f (drop d s)) ∙ ap (mapped (pushes (pushed nothing v))) j ∙ ap (λ (y : Row). mapped (pushes y) p) (sym m) ∙ r.same;
         inside = r.inside;

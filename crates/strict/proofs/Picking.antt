@@ -6,7 +6,7 @@ use mathlib.Core.Option.{Option, none, some}
 use mathlib.Core.Path.{◌≡◌, refl, ap, ◌∙◌}
 use lib.Dec.{eqb}
 use Rattle.grammar.specs.Piece.{Answer}
-use Rattle.grammar.specs.Table.{Entry, ◌↝◌, rest_of, advance, or-done, done, settle, pick}
+use Rattle.grammar.specs.Table.{Entry, ◌↝◌, rest_of, advance, or_done, done, settle, pick}
 use Rattle.grammar.specs.Join.{mapped}
 use Rattle.strict.specs.Words.{entries, choose}
 
@@ -19,17 +19,17 @@ module _ {A B : Type 0} (f : A → B) where
   may none = none
   may (some a) = some (f a)
 
-  done-label : (es : List (Entry A)) → done (relabel f es) ≡ may (done es)
-  done-label [] = refl
-  done-label (e ∷ es) = by e.word (done-label es)
+  done_label : (es : List (Entry A)) → done (relabel f es) ≡ may (done es)
+  done_label [] = refl
+  done_label (e ∷ es) = by e.word (done_label es)
     where
-      by : (w : List ℕ) → done (relabel f es) ≡ may (done es) → or-done (f e.value) (done (relabel f es)) w ≡ may (or-done e.value (done es) w)
+      by : (w : List ℕ) → done (relabel f es) ≡ may (done es) → or_done (f e.value) (done (relabel f es)) w ≡ may (or_done e.value (done es) w)
       by [] q = refl
       by (x ∷ w) q = q
 
-  advance-label : (c : ℕ) (es : List (Entry A)) → advance c (relabel f es) ≡ relabel f (advance c es)
-  advance-label c [] = refl
-  advance-label c (e ∷ es) = by e.word (advance-label c es)
+  advance_label : (c : ℕ) (es : List (Entry A)) → advance c (relabel f es) ≡ relabel f (advance c es)
+  advance_label c [] = refl
+  advance_label c (e ∷ es) = by e.word (advance_label c es)
     where
       by : (w : List ℕ) → advance c (relabel f es) ≡ relabel f (advance c es) → rest_of c (f e.value) w ++ advance c (relabel f es) ≡ relabel f (rest_of c e.value w ++ advance c es)
       by [] q = q
@@ -39,23 +39,23 @@ module _ {A B : Type 0} (f : A → B) where
           on true = ap (λ (z : List (Entry B)). (w ↝ f e.value) ∷ z) q
           on false = q
 
-  settle-label : (o : Option A) (r : List ℕ) → settle (may o) r ≡ mapped f (settle o r)
-  settle-label none r = refl
-  settle-label (some a) r = refl
+  settle_label : (o : Option A) (r : List ℕ) → settle (may o) r ≡ mapped f (settle o r)
+  settle_label none r = refl
+  settle_label (some a) r = refl
 
-  pick-label : (t : List ℕ) (es : List (Entry A)) → pick t (relabel f es) ≡ mapped f (pick t es)
-  pick-label [] es = ap (λ (z : Option B). settle z []) (done-label es) ∙ settle-label (done es) []
-  pick-label (c ∷ t) es = ap step (advance-label c es) ∙ by (advance c es) (λ e fs. pick-label t (e ∷ fs))
+  pick_label : (t : List ℕ) (es : List (Entry A)) → pick t (relabel f es) ≡ mapped f (pick t es)
+  pick_label [] es = ap (λ (z : Option B). settle z []) (done_label es) ∙ settle_label (done es) []
+  pick_label (c ∷ t) es = ap step (advance_label c es) ∙ by (advance c es) (λ e fs. pick_label t (e ∷ fs))
     where
       step : List (Entry B) → Answer B
       step q = elim q [ [] ↦ settle (done (relabel f es)) (c ∷ t) | e ∷ fs ↦ pick t (e ∷ fs) ]
 
       by : (q : List (Entry A)) → ((e : Entry A) (fs : List (Entry A)) → pick t (relabel f (e ∷ fs)) ≡ mapped f (pick t (e ∷ fs))) →
           step (relabel f q) ≡ mapped f (elim q [ [] ↦ settle (done es) (c ∷ t) | e ∷ fs ↦ pick t (e ∷ fs) ])
-      by [] ih = ap (λ (z : Option B). settle z (c ∷ t)) (done-label es) ∙ settle-label (done es) (c ∷ t)
+      by [] ih = ap (λ (z : Option B). settle z (c ∷ t)) (done_label es) ∙ settle_label (done es) (c ∷ t)
       by (e ∷ fs) ih = ih e fs
 
 -- a table with other values is read through its numbers
-pub choose-label : {A : Type 0} (f : ℕ → A) (table t : List ℕ) → pick t (relabel f (entries table)) ≡ mapped f (choose table t)
+pub choose_label : {A : Type 0} (f : ℕ → A) (table t : List ℕ) → pick t (relabel f (entries table)) ≡ mapped f (choose table t)
 unfolding choose
-choose-label f table t = pick-label f t (entries table)
+choose_label f table t = pick_label f t (entries table)

@@ -10,7 +10,7 @@ use lib.IntN.{ℤ}
 use lib.ListN.{length}
 use Rattle.grammar.specs.Piece.{member, apart, Answer, got, stuck, Good, Piece}
 use Rattle.grammar.specs.Join.{mapped, after}
-use Rattle.grammar.specs.Until.{Ended, first, ended, shorter, loop, until-read}
+use Rattle.grammar.specs.Until.{Ended, first, ended, shorter, loop, until_read}
 use Rattle.strict.specs.Rows.{more, run, rows}
 
 module _ {F : List ℕ} {E : ℤ → List ℕ} (P : Piece false F ℤ E) where
@@ -73,10 +73,10 @@ module _ {F : List ℕ} {E : ℤ → List ℕ} (P : Piece false F ℤ E) where
         by true e = e
         by false e = refl
 
-    pub parts : (t : List ℕ) → until-read P Q sep fol t ≡ after close (rows P t)
+    pub parts : (t : List ℕ) → until_read P Q sep fol t ≡ after close (rows P t)
     parts t = all (suc (length t)) t
 
     -- and a first entry before them
-    pub list : (p : Answer ℤ) → after (λ a r. mapped (first a) (until-read P Q sep fol r)) p ≡ after close (after (λ z r. mapped (more z) (rows P r)) p)
+    pub list : (p : Answer ℤ) → after (λ a r. mapped (first a) (until_read P Q sep fol r)) p ≡ after close (after (λ z r. mapped (more z) (rows P r)) p)
     list (got a r) = ap (mapped (first a)) (parts r) ∙ one_more a (rows P r)
     list (stuck r) = refl

@@ -8,9 +8,9 @@ use mathlib.Core.Path.{◌≡◌, refl, subst, sym, ap, ◌∙◌}
 use lib.Dec.{T, eqb, ltb, eqb→eq, eqb_refl, T_not}
 use lib.ListN.{drop, length, get_or, drop_of_length-le}
 use borrow.Author.Tests.{ne_eqb}
-use Rattle.grammar.specs.Tests.{and_left, and_right, is_true, T-not-eq}
+use Rattle.grammar.specs.Tests.{and_left, and_right, is_true, TNotEq}
 use Rattle.grammar.specs.Piece.{Answer, got, stuck, member}
-use Rattle.grammar.specs.Table.{Entry, ◌↝◌, rest_of, advance, or-done, done, settle, pick}
+use Rattle.grammar.specs.Table.{Entry, ◌↝◌, rest_of, advance, or_done, done, settle, pick}
 use Rattle.grammar.specs.Join.{after}
 use Rattle.strict.specs.Cursor.{Told, place, stuck_at}
 use Rattle.strict.specs.Words.{next, among, choose, entries, advances, both, differ, ended}
@@ -70,34 +70,34 @@ abbrev pub Apart : ℕ → List ℕ → Type 0
 Apart b [] = Unit {0}
 Apart b (x ∷ xs) = (b ≡ x → ⊥) × Apart b xs
 
-begin-done : (bs : List ℕ) (es : List (Entry ℕ)) → T (begin bs es) → done es ≡ none
-begin-done bs [] h = refl
-begin-done bs (e ∷ es) h = by e.word (and_left (first bs e.word) (begin bs es) h) (begin-done bs es (and_right (first bs e.word) (begin bs es) h))
+begin_done : (bs : List ℕ) (es : List (Entry ℕ)) → T (begin bs es) → done es ≡ none
+begin_done bs [] h = refl
+begin_done bs (e ∷ es) h = by e.word (and_left (first bs e.word) (begin bs es) h) (begin_done bs es (and_right (first bs e.word) (begin bs es) h))
   where
-    by : (w : List ℕ) → T (first bs w) → done es ≡ none → or-done e.value (done es) w ≡ none
+    by : (w : List ℕ) → T (first bs w) → done es ≡ none → or_done e.value (done es) w ≡ none
     by [] f q = absurd f
     by (x ∷ w) f q = q
 
-apart-member : (b x : ℕ) (bs : List ℕ) → Apart b bs → T (member x bs) → x ≡ b → ⊥
-apart-member b x [] n m e = absurd m
-apart-member b x (y ∷ bs) n m e = by (eqb x y) (eqb→eq x y) m (λ t. apart-member b x bs n.1 t e)
+apart_member : (b x : ℕ) (bs : List ℕ) → Apart b bs → T (member x bs) → x ≡ b → ⊥
+apart_member b x [] n m e = absurd m
+apart_member b x (y ∷ bs) n m e = by (eqb x y) (eqb→eq x y) m (λ t. apart_member b x bs n.1 t e)
   where
     by : (k : Bool) → (T k → x ≡ y) → T (k || member x bs) → (T (member x bs) → ⊥) → ⊥
     by true f t g = n.0 (sym e ∙ f tt)
     by false f t g = g t
 
-begin-advance : (b : ℕ) (bs : List ℕ) (es : List (Entry ℕ)) → Apart b bs → T (begin bs es) → advance b es ≡ []
-begin-advance b bs [] n h = refl
-begin-advance b bs (e ∷ es) n h = by e.word (and_left (first bs e.word) (begin bs es) h) (begin-advance b bs es n (and_right (first bs e.word) (begin bs es) h))
+begin_advance : (b : ℕ) (bs : List ℕ) (es : List (Entry ℕ)) → Apart b bs → T (begin bs es) → advance b es ≡ []
+begin_advance b bs [] n h = refl
+begin_advance b bs (e ∷ es) n h = by e.word (and_left (first bs e.word) (begin bs es) h) (begin_advance b bs es n (and_right (first bs e.word) (begin bs es) h))
   where
     by : (w : List ℕ) → T (first bs w) → advance b es ≡ [] → rest_of b e.value w ++ advance b es ≡ []
     by [] f q = absurd f
-    by (x ∷ w) f q = rw (ne_eqb x b (apart-member b x bs n f)) q
+    by (x ∷ w) f q = rw (ne_eqb x b (apart_member b x bs n f)) q
 
 halt : (t bs : List ℕ) (es : List (Entry ℕ)) → Apart (get_or t 0 0) bs → T (begin bs es) → among es t ≡ stuck t
 unfolding among
-halt [] bs es n h = ap (λ (z : Option ℕ). settle z []) (begin-done bs es h)
-halt (c ∷ t) bs es n h = λ i. step (begin-done bs es h i) (begin-advance c bs es n h i)
+halt [] bs es n h = ap (λ (z : Option ℕ). settle z []) (begin_done bs es h)
+halt (c ∷ t) bs es n h = λ i. step (begin_done bs es h i) (begin_advance c bs es n h i)
   where
     step : Option ℕ → List (Entry ℕ) → Answer ℕ
     step o q = elim q [ [] ↦ settle o (c ∷ t) | e ∷ fs ↦ pick t (e ∷ fs) ]
@@ -127,11 +127,11 @@ abbrev pub others : ℕ → List (Entry ℕ) → List (Entry ℕ)
 others b [] = []
 others b (e ∷ es) = kept b e.value (others b es) e.word
 
-others-done : (b : ℕ) (es : List (Entry ℕ)) → done (others b es) ≡ done es
-others-done b [] = refl
-others-done b (e ∷ es) = by e.word (others-done b es)
+others_done : (b : ℕ) (es : List (Entry ℕ)) → done (others b es) ≡ done es
+others_done b [] = refl
+others_done b (e ∷ es) = by e.word (others_done b es)
   where
-    by : (w : List ℕ) → done (others b es) ≡ done es → done (kept b e.value (others b es) w) ≡ or-done e.value (done es) w
+    by : (w : List ℕ) → done (others b es) ≡ done es → done (kept b e.value (others b es) w) ≡ or_done e.value (done es) w
     by [] q = refl
     by (x ∷ w) q = on (eqb x b)
       where
@@ -139,9 +139,9 @@ others-done b (e ∷ es) = by e.word (others-done b es)
         on true = q
         on false = q
 
-others-advance : (b c : ℕ) → (c ≡ b → ⊥) → (es : List (Entry ℕ)) → advance c (others b es) ≡ advance c es
-others-advance b c n [] = refl
-others-advance b c n (e ∷ es) = by e.word (others-advance b c n es)
+others_advance : (b c : ℕ) → (c ≡ b → ⊥) → (es : List (Entry ℕ)) → advance c (others b es) ≡ advance c es
+others_advance b c n [] = refl
+others_advance b c n (e ∷ es) = by e.word (others_advance b c n es)
   where
     by : (w : List ℕ) → advance c (others b es) ≡ advance c es → advance c (kept b e.value (others b es) w) ≡ rest_of c e.value w ++ advance c es
     by [] q = q
@@ -153,8 +153,8 @@ others-advance b c n (e ∷ es) = by e.word (others-advance b c n es)
 
 omits : (t : List ℕ) (b : ℕ) (es : List (Entry ℕ)) → (get_or t 0 0 ≡ b → ⊥) → among es t ≡ among (others b es) t
 unfolding among
-omits [] b es n = ap (λ (z : Option ℕ). settle z []) (sym (others-done b es))
-omits (c ∷ t) b es n = λ i. step (sym (others-done b es) i) (sym (others-advance b c n es) i)
+omits [] b es n = ap (λ (z : Option ℕ). settle z []) (sym (others_done b es))
+omits (c ∷ t) b es n = λ i. step (sym (others_done b es) i) (sym (others_advance b c n es) i)
   where
     step : Option ℕ → List (Entry ℕ) → Answer ℕ
     step o q = elim q [ [] ↦ settle o (c ∷ t) | e ∷ fs ↦ pick t (e ∷ fs) ]
@@ -191,16 +191,16 @@ one_on : (x k : ℕ) (u t : List ℕ) → among ((x ∷ u ↝ k) ∷ []) (x ∷ 
 unfolding among
 one_on x k u t = go x k u t
 
-one-off : (x c k : ℕ) (u t : List ℕ) → (x ≡ c → ⊥) → among ((x ∷ u ↝ k) ∷ []) (c ∷ t) ≡ stuck (c ∷ t)
+one_off : (x c k : ℕ) (u t : List ℕ) → (x ≡ c → ⊥) → among ((x ∷ u ↝ k) ∷ []) (c ∷ t) ≡ stuck (c ∷ t)
 unfolding among
-one-off x c k u t n = halted x c k u t n
+one_off x c k u t n = halted x c k u t n
 
 abbrev rest : List ℕ → List (Entry ℕ) → ℕ → List ℕ → Answer ℕ
 rest u es k r = among (advances u es) r
 
 along : (u : List ℕ) (es : List (Entry ℕ)) → T (forced u es) → (t : List ℕ) → among es t ≡ after (rest u es) (among ((u ↝ 0) ∷ []) t)
 along [] es h t = sym (ap (after (rest [] es)) (alone 0 t))
-along (x ∷ u) es h [] = ends es (begin-done (x ∷ []) es (and_left (begin (x ∷ []) es) (left (advance x es)) (and_left (starts x es) (forced u (advance x es)) h)))
+along (x ∷ u) es h [] = ends es (begin_done (x ∷ []) es (and_left (begin (x ∷ []) es) (left (advance x es)) (and_left (starts x es) (forced u (advance x es)) h)))
     ∙ sym (ap (after (rest (x ∷ u) es)) (ends ((x ∷ u ↝ 0) ∷ []) refl))
 along (x ∷ u) es h (c ∷ t) = by (eqb x c) refl (along u (advance x es) (and_right (starts x es) (forced u (advance x es)) h) t)
   where
@@ -220,14 +220,14 @@ module _ (s w : List ℕ) (i j k : ℕ) where
   pub fit_on : j < length w → i < length s → get_or s i 0 ≡ get_or w j 0 → among ((drop j w ↝ k) ∷ []) (drop i s) ≡ among ((drop (j + 1) w ↝ k) ∷ []) (drop (i + 1) s)
   fit_on h g e = (λ n. among ((view w j h n ↝ k) ∷ []) ((view s i g ∙ ap (λ (z : ℕ). z ∷ drop (i + 1) s) e) n)) ∙ one_on (get_or w j 0) k (drop (j + 1) w) (drop (i + 1) s)
 
-  pub fit-off : j < length w → i < length s → (get_or s i 0 ≡ get_or w j 0 → ⊥) → among ((drop j w ↝ k) ∷ []) (drop i s) ≡ stuck (drop i s)
-  fit-off h g n = (λ m. among ((view w j h m ↝ k) ∷ []) (view s i g m)) ∙ one-off (get_or w j 0) (get_or s i 0) k (drop (j + 1) w) (drop (i + 1) s) (λ e. n (sym e)) ∙ ap stuck (sym (view s i g))
+  pub fit_off : j < length w → i < length s → (get_or s i 0 ≡ get_or w j 0 → ⊥) → among ((drop j w ↝ k) ∷ []) (drop i s) ≡ stuck (drop i s)
+  fit_off h g n = (λ m. among ((view w j h m ↝ k) ∷ []) (view s i g m)) ∙ one_off (get_or w j 0) (get_or s i 0) k (drop (j + 1) w) (drop (i + 1) s) (λ e. n (sym e)) ∙ ap stuck (sym (view s i g))
 
-  pub fit-end : j < length w → length s ≤ i → among ((drop j w ↝ k) ∷ []) (drop i s) ≡ stuck (drop i s)
-  fit-end h g = (λ m. among ((view w j h m ↝ k) ∷ []) (drop_of_length-le s g m)) ∙ ends ((get_or w j 0 ∷ drop (j + 1) w ↝ k) ∷ []) refl ∙ ap stuck (sym (drop_of_length-le s g))
+  pub fit_end : j < length w → length s ≤ i → among ((drop j w ↝ k) ∷ []) (drop i s) ≡ stuck (drop i s)
+  fit_end h g = (λ m. among ((view w j h m ↝ k) ∷ []) (drop_of_length-le s g m)) ∙ ends ((get_or w j 0 ∷ drop (j + 1) w ↝ k) ∷ []) refl ∙ ap stuck (sym (drop_of_length-le s g))
 
-  pub fit-done : length w ≤ j → among ((drop j w ↝ k) ∷ []) (drop i s) ≡ got k (drop i s)
-  fit-done h = ap (λ (z : List ℕ). among ((z ↝ k) ∷ []) (drop i s)) (drop_of_length-le w h) ∙ alone k (drop i s)
+  pub fit_done : length w ≤ j → among ((drop j w ↝ k) ∷ []) (drop i s) ≡ got k (drop i s)
+  fit_done h = ap (λ (z : List ℕ). among ((z ↝ k) ∷ []) (drop i s)) (drop_of_length-le w h) ∙ alone k (drop i s)
 
 -- ── one of two words ──
 module _ (s : List ℕ) (at j k : ℕ) where
@@ -237,7 +237,7 @@ module _ (s : List ℕ) (at j k : ℕ) where
   either_first (x ∷ v) (y ∷ w) {a} {e} d n t = but s at y ((x ∷ v ↝ j) ∷ (y ∷ w ↝ k) ∷ []) n (subst (λ (z : List (Entry ℕ)). Told s at (among z (drop at s)) a e) (sym is) t)
     where
       is : others y ((x ∷ v ↝ j) ∷ (y ∷ w ↝ k) ∷ []) ≡ (x ∷ v ↝ j) ∷ []
-      is = rw (T-not-eq (eqb x y) d, is_true (eqb y y) (eqb_refl y))
+      is = rw (TNotEq (eqb x y) d, is_true (eqb y y) (eqb_refl y))
 
   pub either_second : (v w : List ℕ) {a e : ℕ} → T (differ v w) → get_or s at 0 ≡ get_or w 0 0 → Told s at (among ((w ↝ k) ∷ []) (drop at s)) a e → Told s at (among ((v ↝ j) ∷ (w ↝ k) ∷ []) (drop at s)) a e
   either_second [] w d q t = absurd d
@@ -252,12 +252,12 @@ module _ (s : List ℕ) (at j k : ℕ) where
 pub within : (s : List ℕ) (at c : ℕ) → get_or s at 0 ≡ c → T (ltb 0 c) → at + 1 ≤ length s
 within s at c k h = let g = ahead s at c k h in omega arith
 
-pub within-place : (s : List ℕ) (at c : ℕ) → get_or s at 0 ≡ c → T (ltb 0 c) → place s (at + 1) ≤ length s
-within-place s at c k h = let g = within s at c k h in let z = C.place-past s (at + 1) g in omega arith
+pub within_place : (s : List ℕ) (at c : ℕ) → get_or s at 0 ≡ c → T (ltb 0 c) → place s (at + 1) ≤ length s
+within_place s at c k h = let g = within s at c k h in let z = C.place_past s (at + 1) g in omega arith
 
-pub down-next : (s : List ℕ) (at c : ℕ) (es : List (Entry ℕ)) {a e : ℕ} → get_or s at 0 ≡ c → T (ltb 0 c && left (advance c es)) →
+pub down_next : (s : List ℕ) (at c : ℕ) (es : List (Entry ℕ)) {a e : ℕ} → get_or s at 0 ≡ c → T (ltb 0 c && left (advance c es)) →
     Told s (place s (at + 1)) (next s (among (advance c es)) (at + 1)) a e → Told s at (among es (drop at s)) a e
-down-next s at c es k h t = down s at c es k h (C.begun s (among (advance c es)) (at + 1) (within s at c k (and_left (ltb 0 c) (left (advance c es)) h)) t)
+down_next s at c es k h t = down s at c es k h (C.begun s (among (advance c es)) (at + 1) (within s at c k (and_left (ltb 0 c) (left (advance c es)) h)) t)
 
 -- the bytes that all words begin with, then the rest of them
 pub via : (s : List ℕ) (at : ℕ) (u : List ℕ) (es : List (Entry ℕ)) {k d a e : ℕ} → T (forced u es) → Told s at (among ((u ↝ 0) ∷ []) (drop at s)) k d →
@@ -265,11 +265,11 @@ pub via : (s : List ℕ) (at : ℕ) (u : List ℕ) (es : List (Entry ℕ)) {k d 
 via s at u es {k} {d} h t r = let o = t.onward in let p = r.onward in
     record { same = along u es h (drop at s) ∙ ap (after (rest u es)) t.same ∙ C.hand s (rest u es) k d ∙ r.same; inside = r.inside; onward = omega arith }
 
-pub via-next : (s : List ℕ) (from : ℕ) (u : List ℕ) (es : List (Entry ℕ)) {k d a e : ℕ} → T (forced u es) → Told s (place s from) (next s (among ((u ↝ 0) ∷ [])) from) k d →
+pub via_next : (s : List ℕ) (from : ℕ) (u : List ℕ) (es : List (Entry ℕ)) {k d a e : ℕ} → T (forced u es) → Told s (place s from) (next s (among ((u ↝ 0) ∷ [])) from) k d →
     Told s (place s d) (next s (among (advances u es)) d) a e → Told s (place s from) (next s (among es) from) a e
-via-next s from u es {k} {d} h t r = let o = t.onward in let p = r.onward in
+via_next s from u es {k} {d} h t r = let o = t.onward in let p = r.onward in
     record {
-      same = C.next-same s (among es) (λ x. after (rest u es) (among ((u ↝ 0) ∷ []) x)) from (along u es h (drop from s))
+      same = C.next_same s (among es) (λ x. after (rest u es) (among ((u ↝ 0) ∷ []) x)) from (along u es h (drop from s))
           ∙ H.chain s (among ((u ↝ 0) ∷ [])) (rest u es) k from d t.same ∙ r.same;
       inside = r.inside;
       onward = omega arith;
@@ -279,10 +279,10 @@ abbrev keep : Bool → List ℕ → ℕ → List (Entry ℕ)
 keep k u n = cond k ((u ↝ n) ∷ []) []
 
 module _ (v : List ℕ) (j : ℕ) (w : List ℕ) (l : ℕ) where
-  abbrev fork-read : ℕ → List ℕ → Answer ℕ
-  fork-read k r = pick r ((v ↝ j) ∷ (w ↝ l) ∷ [])
+  abbrev fork_read : ℕ → List ℕ → Answer ℕ
+  fork_read k r = pick r ((v ↝ j) ∷ (w ↝ l) ∷ [])
 
-  pair : (u t : List ℕ) → pick t (both u v j w l) ≡ after fork-read (pick t ((u ↝ 0) ∷ []))
+  pair : (u t : List ℕ) → pick t (both u v j w l) ≡ after fork_read (pick t ((u ↝ 0) ∷ []))
   pair [] [] = refl
   pair [] (c ∷ t) = refl
   pair (x ∷ u) [] = refl
@@ -291,7 +291,7 @@ module _ (v : List ℕ) (j : ℕ) (w : List ℕ) (l : ℕ) where
       step : List (Entry ℕ) → Answer ℕ
       step q = elim q [ [] ↦ stuck (c ∷ t) | e ∷ fs ↦ pick t (e ∷ fs) ]
 
-      by : (k : Bool) → pick t (both u v j w l) ≡ after fork-read (pick t ((u ↝ 0) ∷ [])) → step (keep k (u ++ v) j ++ (keep k (u ++ w) l ++ [])) ≡ after fork-read (step (keep k u 0 ++ []))
+      by : (k : Bool) → pick t (both u v j w l) ≡ after fork_read (pick t ((u ↝ 0) ∷ [])) → step (keep k (u ++ v) j ++ (keep k (u ++ w) l ++ [])) ≡ after fork_read (step (keep k u 0 ++ []))
       by true ih = ih
       by false ih = refl
 
@@ -300,7 +300,7 @@ module _ (v : List ℕ) (j : ℕ) (w : List ℕ) (l : ℕ) where
     unfolding among
     two t r = let o = t.onward in let p = r.onward in
         record {
-          same = C.next-same s (among (both u v j w l)) (λ x. after fork-read (among ((u ↝ 0) ∷ []) x)) from (pair u (drop from s)) ∙ H.chain s (among ((u ↝ 0) ∷ [])) fork-read k from d t.same ∙ r.same;
+          same = C.next_same s (among (both u v j w l)) (λ x. after fork_read (among ((u ↝ 0) ∷ []) x)) from (pair u (drop from s)) ∙ H.chain s (among ((u ↝ 0) ∷ [])) fork_read k from d t.same ∙ r.same;
           inside = r.inside;
           onward = omega arith;
         }
@@ -329,8 +329,8 @@ stays s at p i r q h k e = C.off s at p r.word i r.end (ap (λ (z : Picked). z.e
 pub comes : (s : List ℕ) (at : ℕ) (p : Answer ℕ) (i k : ℕ) (r : Picked) → r ≡ ended k i → i ≤ length s → at ≤ i → p ≡ got k (drop i s) → Told s at p r.word r.end
 comes s at p i k r q h o e = subst (λ (z : Picked). Told s at p z.word z.end) (sym q) (C.past s at p k i h o e)
 
-pub getD-out : (s : List ℕ) (i : ℕ) → length s ≤ i → get_or s i 0 ≡ 0
-getD-out s i h = byte s i ∙ ap (λ (t : List ℕ). get_or t 0 0) (drop_of_length-le s h)
+pub get_d_out : (s : List ℕ) (i : ℕ) → length s ≤ i → get_or s i 0 ≡ 0
+get_d_out s i h = byte s i ∙ ap (λ (t : List ℕ). get_or t 0 0) (drop_of_length-le s h)
 
 pub has_first : (v w : List ℕ) → T (differ v w) → 0 < length w
 has_first [] w d = absurd d

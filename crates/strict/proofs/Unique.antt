@@ -3,5 +3,5 @@ use Rattle.lexis.proofs.Unique.{One}
 use Rattle.grammar.proofs.Answer.{one_answer}
 use Rattle.strict.proofs.answer.parse_strict.Reads as parse-strict
 
-pub parse-strict-one : One parse-strict.Post
-parse-strict-one κs a x y s t p q = one_answer 8 1024 a.0.now x y p q
+pub parse_strict_one : One parse-strict.Post
+parse_strict_one κs a x y s t p q = one_answer 8 1024 a.0.now x y p q

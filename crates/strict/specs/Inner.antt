@@ -30,8 +30,8 @@ kerns = bytes "i1|i4|i8|i16|i32|i64|f16|bf16|f32|tf32|f64|f8E4M3FN|f8e4m3fn|f8E5
 abbrev pub close : List ℕ
 close = bytes ">|, #cuda_tile.ptr_attr<none>>|"
 
-abbrev pub close-both : List ℕ
-close-both = bytes ">>|, #cuda_tile.ptr_attr<none>>>|"
+abbrev pub close_both : List ℕ
+close_both = bytes ">>|, #cuda_tile.ptr_attr<none>>>|"
 
 abbrev pub brackets : List ℕ
 brackets = bytes "]>|], #cuda_tile.ptr_attr<none>>|"
@@ -64,11 +64,11 @@ pointee w t = after (closing w) (choose names t)
 abbrev pub pointed : List ℕ → List ℕ → List ℕ → Answer Cored
 pointed v w t = after (λ k r. mapped (closed k) (among ((v ↝ 0) ∷ (w ↝ 1) ∷ []) r)) (choose names t)
 
-abbrev pub core-of : ℕ → List ℕ → Answer Cored
-core-of k r = cond (ltb k 22) (mapped (λ (m : ℕ). plain k) (choose (bytes ">|") r)) (pointee close-both r)
+abbrev pub core_of : ℕ → List ℕ → Answer Cored
+core_of k r = cond (ltb k 22) (mapped (λ (m : ℕ). plain k) (choose (bytes ">|") r)) (pointee close_both r)
 
 unfoldable pub core : List ℕ → Answer Cored
-core t = after core-of (choose kerns t)
+core t = after core_of (choose kerns t)
 
 abbrev pub cored : Core → Cored
 cored c = record { pointer = c.pointer; word = c.word; marked = c.marked }
@@ -84,14 +84,14 @@ pub record Tiled : Type 0 where
   pub shape : Row
   pub core : Cored
 
-abbrev pub tile-of : Row → Cored → Tiled
-tile-of l c = record { shape = l; core = c }
+abbrev pub tile_of : Row → Cored → Tiled
+tile_of l c = record { shape = l; core = c }
 
 unfoldable pub tile : List ℕ → Answer Tiled
-tile t = after (λ l r. mapped (tile-of l) (core r)) (shape t)
+tile t = after (λ l r. mapped (tile_of l) (core r)) (shape t)
 
 abbrev pub tiled : List ℤ → Tile → Tiled
-tiled l c = tile-of (row l c.rank) (cored c.core)
+tiled l c = tile_of (row l c.rank) (cored c.core)
 
 -- ── a tensor view ──
 pub record Rested : Type 0 where
@@ -122,11 +122,11 @@ pub record Tensed : Type 0 where
   pub word : ℕ
   pub rest : Rested
 
-abbrev pub tens-of : Row → ℕ → Rested → Tensed
-tens-of l k r = record { shape = l; word = k; rest = r }
+abbrev pub tens_of : Row → ℕ → Rested → Tensed
+tens_of l k r = record { shape = l; word = k; rest = r }
 
 unfoldable pub tensor : List ℕ → Answer Tensed
-tensor t = after (λ l r. after (λ k x. mapped (tens-of l k) (rest l.len x)) (choose names r)) (shape t)
+tensor t = after (λ l r. after (λ k x. mapped (tens_of l k) (rest l.len x)) (choose names r)) (shape t)
 
 abbrev pub tensed : List ℤ → List ℤ → Tensor → Tensed
-tensed l m c = tens-of (row l c.rank) c.word (record { strides = row m c.len; marked = c.marked })
+tensed l m c = tens_of (row l c.rank) c.word (record { strides = row m c.len; marked = c.marked })

@@ -34,8 +34,8 @@ unfoldable pub dims64 : List ℕ → Answer (List ℤ)
 dims64 = rows dimx
 
 -- a dimension and the `x` after it
-abbrev pub dim-x : List ℕ → Answer ℤ
-dim-x t = after (λ z r. mapped (λ k. z) (choose (bytes "x|") r)) (dimension t)
+abbrev pub dim_x : List ℕ → Answer ℤ
+dim_x t = after (λ z r. mapped (λ k. z) (choose (bytes "x|") r)) (dimension t)
 
 -- by `x`, or by commas
 abbrev pub parts32 : Bool → List ℕ → Answer (List ℤ)

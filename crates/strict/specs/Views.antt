@@ -25,8 +25,8 @@ mids =
     bytes "),!cuda_tile.tensor_view<|), !cuda_tile.tensor_view<|" ++
     bytes "),tensor_view=!cuda_tile.tensor_view<|), tensor_view=!cuda_tile.tensor_view<|"
 
-abbrev pub walk-mids : List ℕ
-walk-mids =
+abbrev pub walk_mids : List ℕ
+walk_mids =
     bytes "],padding_value=|], padding_value=|],tensor_view<|], tensor_view<|" ++
     bytes "],!cuda_tile.tensor_view<|], !cuda_tile.tensor_view<|" ++
     bytes "],tensor_view=!cuda_tile.tensor_view<|], tensor_view=!cuda_tile.tensor_view<|"
@@ -67,7 +67,7 @@ abbrev pub entries : Bool → List ℕ → Answer Row
 entries b t = mapped (pushes nothing) (list32 b t)
 
 unfoldable pub mid : Bool → List ℕ → Answer ℕ
-mid b t = cond b (choose mids t) (choose walk-mids t)
+mid b t = cond b (choose mids t) (choose walk_mids t)
 
 -- between the tile and that word: nothing, or, in a strided view, the traversal
 unfoldable pub walking : Bool → List ℕ → Answer Row
@@ -77,23 +77,23 @@ walking bare t = cond bare (got nothing t) (after (λ (k : ℕ) x. entries false
 abbrev pub map_tail : Row → List ℕ → Answer Row
 map_tail l r = mapped (λ (k : ℕ). l) (choose (bytes "]>|") r)
 
-abbrev pub map-from : ℕ → List ℕ → Answer Row
-map-from k r = after map_tail (entries false r)
+abbrev pub map_from : ℕ → List ℕ → Answer Row
+map_from k r = after map_tail (entries false r)
 
-unfoldable pub map-part : List ℕ → Answer Row
-map-part t = after map-from (choose maps t)
+unfoldable pub map_part : List ℕ → Answer Row
+map_part t = after map_from (choose maps t)
 
 abbrev pub small : List ℕ → Answer ℤ
 small = numeral (2 ^ 31) (2 ^ 31 + 1)
 
-abbrev pub sparse-tail : ℤ → List ℕ → Answer ℤ
-sparse-tail z r = mapped (λ (k : ℕ). z) (choose (bytes ">|") r)
+abbrev pub sparse_tail : ℤ → List ℕ → Answer ℤ
+sparse_tail z r = mapped (λ (k : ℕ). z) (choose (bytes ">|") r)
 
-abbrev pub sparse-from : ℕ → List ℕ → Answer ℤ
-sparse-from k r = after sparse-tail (small r)
+abbrev pub sparse_from : ℕ → List ℕ → Answer ℤ
+sparse_from k r = after sparse_tail (small r)
 
-unfoldable pub sparse-part : List ℕ → Answer ℤ
-sparse-part t = after sparse-from (choose sparses t)
+unfoldable pub sparse_part : List ℕ → Answer ℤ
+sparse_part t = after sparse_from (choose sparses t)
 
 -- the map, or the sparse dimension
 pub record Closed : Type 0 where
@@ -104,7 +104,7 @@ abbrev pub closed : Row → ℤ → Closed
 closed m z = record { map = m; sparse = z }
 
 unfoldable pub ending : Bool → List ℕ → Answer Closed
-ending sparse t = cond sparse (mapped (closed nothing) (sparse-part t)) (mapped (λ m. closed m (pos 0)) (map-part t))
+ending sparse t = cond sparse (mapped (closed nothing) (sparse_part t)) (mapped (λ m. closed m (pos 0)) (map_part t))
 
 -- ── the views ──
 pub record Viewed : Type 0 where

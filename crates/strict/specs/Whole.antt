@@ -58,23 +58,23 @@ simple k p w m sh st = record {
   pad = 0;
 }
 
-abbrev pub scalar-of : ℕ → Entire
-scalar-of k = simple K.Scalar false k false nothing nothing
+abbrev pub scalar_of : ℕ → Entire
+scalar_of k = simple K.Scalar false k false nothing nothing
 
 abbrev pub token : Entire
 token = simple K.Token false 0 false nothing nothing
 
-abbrev pub pointer-of : Cored → Entire
-pointer-of c = simple K.Pointer false c.word c.marked nothing nothing
+abbrev pub pointer_of : Cored → Entire
+pointer_of c = simple K.Pointer false c.word c.marked nothing nothing
 
-abbrev pub tile-of : Tiled → Entire
-tile-of t = simple K.Tile t.core.pointer t.core.word t.core.marked t.shape nothing
+abbrev pub tile_of : Tiled → Entire
+tile_of t = simple K.Tile t.core.pointer t.core.word t.core.marked t.shape nothing
 
-abbrev pub tensor-of : Tensed → Entire
-tensor-of t = simple K.TensorView false t.word t.rest.marked t.shape t.rest.strides
+abbrev pub tensor_of : Tensed → Entire
+tensor_of t = simple K.TensorView false t.word t.rest.marked t.shape t.rest.strides
 
-abbrev pub view-of : Kind → Viewed → Entire
-view-of k v = record {
+abbrev pub view_of : Kind → Viewed → Entire
+view_of k v = record {
   kind = k;
   pointer = false;
   word = v.sight.tensor.word;
@@ -92,32 +92,32 @@ view-of k v = record {
 -- a view: the entries of its tile, the traversal in a strided one, the word that opens a tensor view or a padding, what it opens, the end
 abbrev pub view : Kind → Bool → Bool → List ℕ → Answer Entire
 view k bare sparse t =
-    after (λ l r. after (λ w x. after (λ j y. after (λ v z. mapped (λ e. view-of k (viewed l v e.map w e.sparse)) (ending sparse z)) (sight j y)) (mid bare x)) (walking bare r)) (entries true t)
+    after (λ l r. after (λ w x. after (λ j y. after (λ v z. mapped (λ e. view_of k (viewed l v e.map w e.sparse)) (ending sparse z)) (sight j y)) (mid bare x)) (walking bare r)) (entries true t)
 
-abbrev pub kind-by : Bool → Bool → Kind
-kind-by p g = cond p K.Partition (cond g K.GatherScatter K.Strided)
+abbrev pub kind_by : Bool → Bool → Kind
+kind_by p g = cond p K.Partition (cond g K.GatherScatter K.Strided)
 
 -- what follows the first word, by its number
-abbrev pub from-partition : ℕ → List ℕ → Answer Entire
-from-partition k r = view (kind-by (ltb k 32) (ltb k 34)) (ltb k 34) (ltb k 34 && not (ltb k 32)) r
+abbrev pub from_partition : ℕ → List ℕ → Answer Entire
+from_partition k r = view (kind_by (ltb k 32) (ltb k 34)) (ltb k 34) (ltb k 34 && not (ltb k 32)) r
 
-abbrev pub from-tensor : ℕ → List ℕ → Answer Entire
-from-tensor k r = cond (ltb k 30) (mapped tensor-of (tensor r)) (from-partition k r)
+abbrev pub from_tensor : ℕ → List ℕ → Answer Entire
+from_tensor k r = cond (ltb k 30) (mapped tensor_of (tensor r)) (from_partition k r)
 
-abbrev pub from-tile : ℕ → List ℕ → Answer Entire
-from-tile k r = cond (ltb k 28) (mapped tile-of (tile r)) (from-tensor k r)
+abbrev pub from_tile : ℕ → List ℕ → Answer Entire
+from_tile k r = cond (ltb k 28) (mapped tile_of (tile r)) (from_tensor k r)
 
-abbrev pub from-pointer : ℕ → List ℕ → Answer Entire
-from-pointer k r = cond (ltb k 26) (mapped pointer-of (pointee close r)) (from-tile k r)
+abbrev pub from_pointer : ℕ → List ℕ → Answer Entire
+from_pointer k r = cond (ltb k 26) (mapped pointer_of (pointee close r)) (from_tile k r)
 
-abbrev pub from-token : ℕ → List ℕ → Answer Entire
-from-token k r = cond (ltb k 24) (got token r) (from-pointer k r)
+abbrev pub from_token : ℕ → List ℕ → Answer Entire
+from_token k r = cond (ltb k 24) (got token r) (from_pointer k r)
 
-abbrev pub from-head : ℕ → List ℕ → Answer Entire
-from-head k r = cond (ltb k 22) (got (scalar-of k) r) (from-token k r)
+abbrev pub from_head : ℕ → List ℕ → Answer Entire
+from_head k r = cond (ltb k 22) (got (scalar_of k) r) (from_token k r)
 
 unfoldable pub whole : List ℕ → Answer Entire
-whole t = after from-head (choose heads t)
+whole t = after from_head (choose heads t)
 
 -- with its shape, strides, tile, map and traversal
 abbrev pub entire : List ℤ → List ℤ → List ℤ → List ℤ → List ℤ → Whole → Entire

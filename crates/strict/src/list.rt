@@ -6,7 +6,7 @@ ghost use Rattle.grammar.specs.Piece.{member};
 ghost use Rattle.grammar.specs.Several.{figs?};
 ghost use Rattle.strict.specs.Cursor.{Told, place};
 ghost use Rattle.strict.specs.Words.{next};
-ghost use Rattle.strict.specs.Rows.{parts32, commas64, dims64, dim-x, list32, list64};
+ghost use Rattle.strict.specs.Rows.{parts32, commas64, dims64, dim_x, list32, list64};
 ghost use Rattle.strict.specs.Lists.{row, nothing, pushes};
 
 use super::number::{Num64, number32, read_dim, space};
@@ -93,7 +93,7 @@ fn starts(b: u8) -> bool
 // A dimension and the `x` after it.
 fn read_dim_x(s: &[u8], at: usize) -> Num64
     requires { at ≤ length s.now }
-    ensures { Told s.now at (dim-x (drop at s.now)) result.value result.end }
+    ensures { Told s.now at (dim_x (drop at s.now)) result.value result.end }
 {
     let n = read_dim(s, at);
     let x = read_word(s, n.end, b"x");

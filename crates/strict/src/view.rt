@@ -4,7 +4,7 @@ ghost use Rattle.meaning.specs.Found.{padded};
 ghost use Rattle.strict.specs.Cursor.{Told, place};
 ghost use Rattle.strict.specs.Words.{next};
 ghost use Rattle.strict.specs.Lists.{row};
-ghost use Rattle.strict.specs.Views.{sight, sighted, walking, map-part, sparse-part, closed, ending};
+ghost use Rattle.strict.specs.Views.{sight, sighted, walking, map_part, sparse_part, closed, ending};
 
 use super::inner::{Tensor, read_tensor};
 use super::list::{Listed, read_list32};
@@ -82,7 +82,7 @@ pub(crate) fn read_walk(s: &[u8], from: usize, bare: bool, walk: &mut [i32]) -> 
 fn read_map(s: &[u8], from: usize, map: &mut [i32]) -> Listed
     requires from_in_bounds { place s.now from ≤ length s.now }
     requires map_value { map.old ≡ padded 8 [] }
-    ensures { Told s.now (place s.now from) (next s.now map-part from) (row map.new result.len) result.end }
+    ensures { Told s.now (place s.now from) (next s.now map_part from) (row map.new result.len) result.end }
 {
     let k = read_two(s, from, b",", b"dim_map=[", b" dim_map=[");
     let l = read_list32(s, k.end, false, map);
@@ -96,7 +96,7 @@ fn read_map(s: &[u8], from: usize, map: &mut [i32]) -> Listed
 // The sparse dimension, and the end of the view.
 fn read_sparse(s: &[u8], from: usize) -> Num32
     requires { place s.now from ≤ length s.now }
-    ensures { Told s.now (place s.now from) (next s.now sparse-part from) result.value result.end }
+    ensures { Told s.now (place s.now from) (next s.now sparse_part from) result.value result.end }
 {
     let k = read_two(s, from, b",", b"sparse_dim=", b" sparse_dim=");
     if s.len() < k.end {

@@ -3,7 +3,7 @@ ghost use Rattle.std.specs.Prelude.{◌≡◌, [], ltb, length, ◌≤◌};
 ghost use Rattle.meaning.specs.Found.{padded};
 ghost use Rattle.strict.specs.Cursor.{Told, place};
 ghost use Rattle.strict.specs.Words.{next};
-ghost use Rattle.strict.specs.Whole.{plainly, kind-by, entire, from-partition, whole};
+ghost use Rattle.strict.specs.Whole.{plainly, kind_by, entire, from_partition, whole};
 
 use super::heads::read_head;
 use super::inner::{read_pointee, read_tensor, read_tile};
@@ -61,7 +61,7 @@ fn made(
 
 // The kind of a view, by its first word.
 fn view_kind(k: usize) -> Kind
-    ensures { result ≡ kind-by (ltb k 32) (ltb k 34) }
+    ensures { result ≡ kind_by (ltb k 32) (ltb k 34) }
 {
     if k < 32 {
         return Kind::Partition;
@@ -89,7 +89,7 @@ fn read_view(
     requires tile_value { tile.old ≡ padded 8 [] }
     requires map_value { map.old ≡ padded 8 [] }
     requires walk_value { walk.old ≡ padded 8 [] }
-    ensures { Told s.now (place s.now from) (next s.now (from-partition k) from) (entire shape.new strides.new tile.new map.new walk.new result) result.end }
+    ensures { Told s.now (place s.now from) (next s.now (from_partition k) from) (entire shape.new strides.new tile.new map.new walk.new result) result.end }
 {
     let bare = k < 34;
     let t = read_list32(s, from, true, tile);

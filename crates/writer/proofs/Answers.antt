@@ -16,7 +16,7 @@ use Rattle.meaning.specs.Normal.{normal}
 use Rattle.meaning.specs.Written.{Outcome, outcome, refused, texted, written, writing}
 use Rattle.writer.specs.Room.{Put}
 use Rattle.writer.specs.Flat.{Small, shown, text}
-use Rattle.writer.proofs.Rooms.{overlay-front}
+use Rattle.writer.proofs.Rooms.{overlay_front}
 use Rattle.writer.proofs.Same.{Whole, same}
 use Rattle.writer.proofs.Opened.{opened}
 
@@ -33,11 +33,11 @@ whole cap r h a = record { shape = omega arith; strides = omega arith; tile = om
 
 pub arrays : {cap : ℕ} {r : Record} → Small cap r → Arrays cap r
 arrays s = record {
-  shape = s.shape-array;
-  strides = s.strides-array;
-  tile = s.tile-array;
-  map = s.map-array;
-  traversal = s.traversal-array;
+  shape = s.shape_array;
+  strides = s.strides_array;
+  tile = s.tile_array;
+  map = s.map_array;
+  traversal = s.traversal_array;
 }
 
 pub small : (cap : ℕ) (r : Record) → normal cap r ≡ true → Arrays cap r → Small cap r
@@ -45,54 +45,54 @@ small cap r e q =
     let o = opened cap r e in
     record {
       shape = o.shape.within;
-      shape-array = q.shape;
+      shape_array = q.shape;
       strides = o.strides.within;
-      strides-array = q.strides;
+      strides_array = q.strides;
       tile = o.tile.within;
-      tile-array = q.tile;
+      tile_array = q.tile;
       map = o.map.within;
-      map-array = q.map;
+      map_array = q.map;
       traversal = o.traversal.within;
-      traversal-array = q.traversal;
+      traversal_array = q.traversal;
     }
 
 -- what was put at the front of a room that is long enough
 pub front : {s t x : Text} {n : ℕ} → Put s 0 x t n → length x ≤ length s → take n t ≡ x
 front {s} {t} {x} {n} p h =
-    (λ i. take ((p.place ∙ zero-add (length x)) i) ((p.room ∙ overlay-front s x h) i)) ∙ take-append_seam x (drop (length x) s)
+    (λ i. take ((p.place ∙ zero-add (length x)) i) ((p.room ∙ overlay_front s x h) i)) ∙ take-append_seam x (drop (length x) s)
 
 -- ── the answers ──
 
-abbrev normal-or : Bool → Record → Text → Outcome
-normal-or b r room = if b then texted (written r) room else refused NotNormal room
+abbrev normal_or : Bool → Record → Text → Outcome
+normal_or b r room = if b then texted (written r) room else refused NotNormal room
 
-abbrev shown-or : Bool → Record → Text → Outcome
-shown-or b r room = texted (if b then some (text r) else none) room
+abbrev shown_or : Bool → Record → Text → Outcome
+shown_or b r room = texted (if b then some (text r) else none) room
 
 abbrev fits_or : Bool → Text → Text → Outcome
 fits_or b t room = if b then outcome (record { refusal = Accepted; len = length t }) (t ++ drop (length t) room) else refused RoomShort room
 
-pub not-normal : (cap : ℕ) (r : Record) (room : Text) → normal cap r ≡ false → refused NotNormal room ≡ writing cap r room
+pub not_normal : (cap : ℕ) (r : Record) (room : Text) → normal cap r ≡ false → refused NotNormal room ≡ writing cap r room
 unfolding writing
-not-normal cap r room e = ap (λ (b : Bool). normal-or b r room) (sym e)
+not_normal cap r room e = ap (λ (b : Bool). normal_or b r room) (sym e)
 
 module _ (cap : ℕ) (r : Record) (w : Whole r) (room : Text) (e : normal cap r ≡ true) where
-  by-shown : (b : Bool) → shown r ≡ b → shown-or b r room ≡ writing cap r room
+  by_shown : (b : Bool) → shown r ≡ b → shown_or b r room ≡ writing cap r room
   unfolding writing
-  by-shown b h =
-      ap (λ (b : Bool). shown-or b r room) (sym h)
+  by_shown b h =
+      ap (λ (b : Bool). shown_or b r room) (sym h)
       ∙ ap (λ (o : Option Text). texted o room) (sym (same r w))
-      ∙ ap (λ (b : Bool). normal-or b r room) (sym e)
+      ∙ ap (λ (b : Bool). normal_or b r room) (sym e)
 
   pub no_text : shown r ≡ false → refused NoText room ≡ writing cap r room
-  no_text h = by-shown false h
+  no_text h = by_shown false h
 
-  pub room-short : shown r ≡ true → length room < length (text r) → refused RoomShort room ≡ writing cap r room
-  room-short h k = ap (λ (b : Bool). fits_or b (text r) room) (sym (lt-leb (length (text r)) (length room) k)) ∙ by-shown true h
+  pub room_short : shown r ≡ true → length room < length (text r) → refused RoomShort room ≡ writing cap r room
+  room_short h k = ap (λ (b : Bool). fits_or b (text r) room) (sym (lt-leb (length (text r)) (length room) k)) ∙ by_shown true h
 
   pub accepted : {t : Text} {n : ℕ} → shown r ≡ true → length (text r) ≤ length room → Put room 0 (text r) t n →
       outcome (record { refusal = Accepted; len = n }) t ≡ writing cap r room
   accepted {t} {n} h k p =
-      (λ i. outcome (record { refusal = Accepted; len = (p.place ∙ zero-add (length (text r))) i }) ((p.room ∙ overlay-front room (text r) k) i))
+      (λ i. outcome (record { refusal = Accepted; len = (p.place ∙ zero-add (length (text r))) i }) ((p.room ∙ overlay_front room (text r) k) i))
       ∙ ap (λ (b : Bool). fits_or b (text r) room) (sym (le-leb (length (text r)) (length room) k))
-      ∙ by-shown true h
+      ∙ by_shown true h

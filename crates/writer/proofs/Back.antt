@@ -24,187 +24,187 @@ use Rattle.meaning.specs.declared.Refusal.TheVariants.{Accepted}
 use Rattle.meaning.specs.Decimal.{size, dynamic, known}
 use Rattle.meaning.specs.Found.{padded}
 use Rattle.meaning.specs.Parts.{each}
-use Rattle.meaning.specs.Normal.{is_zero, all-zero, normal}
+use Rattle.meaning.specs.Normal.{is_zero, all_zero, normal}
 use Rattle.meaning.specs.Strict as S
-use Rattle.meaning.specs.Strict.{Tensor, View, Commas, Form, values, entriesOf, scalarOf, spell}
-use Rattle.meaning.specs.Meant.{Any, any, mean, view_of, stridesOf, padsOf, Strict, flat-any, fits, taken, Judged, accepted}
+use Rattle.meaning.specs.Strict.{Tensor, View, Commas, Form, values, entries_of, scalar_of, spell}
+use Rattle.meaning.specs.Meant.{Any, any, mean, meant_view, strides_of, meant_pads, Strict, flat_any, fits, taken, Judged, accepted}
 use Rattle.meaning.specs.Written as W
-use Rattle.meaning.specs.Written.{first, pads-of, dimension-of, listed, form-as, form, written, tensor-of, view-of, tensor-in, view_in, shape-in, strides-in}
-use Rattle.meaning.specs.Written.{tile-in, map-in, traversal-in}
+use Rattle.meaning.specs.Written.{first, pads_of, dimension_of, listed, form_as, form, written, tensor_of, view_of, tensor_in, view_in, shape_in, strides_in}
+use Rattle.meaning.specs.Written.{tile_in, map_in, traversal_in}
 use Rattle.writer.proofs.Short.{Ranged}
 use Rattle.grammar.specs.Tests.{and_left, and_right, and_in}
 use Rattle.writer.proofs.Opened.{zero_is, Kept, Opened, opened}
 use Rattle.writer.proofs.Answers.{Arrays}
-use Rattle.meaning.proofs.Whens.{When, when-each, when-bind, when-unless}
-use Rattle.writer.proofs.Sound.{entries-are, plain-are, Fine, form-fine}
+use Rattle.meaning.proofs.Whens.{When, when_each, when_bind, when_unless}
+use Rattle.writer.proofs.Sound.{entries_are, plain_are, Fine, form_fine}
 
 -- ── a record's own meaning ──
 
-abbrev own-as : Kind → Record → Any
-own-as k r = any k r.element r.pointer r.attribute (shape-in r) (strides-in r) (tile-in r) (map-in r) (traversal-in r) r.sparse r.padding
+abbrev own_as : Kind → Record → Any
+own_as k r = any k r.element r.pointer r.attribute (shape_in r) (strides_in r) (tile_in r) (map_in r) (traversal_in r) r.sparse r.padding
 
 abbrev pub own : Record → Any
-own r = own-as r.kind r
+own r = own_as r.kind r
 
 -- ── what its parts say ──
 
-scalar-back : (e : Scalar) → scalarOf (first e) ≡ e
-scalar-back I1 = refl
-scalar-back I4 = refl
-scalar-back I8 = refl
-scalar-back I16 = refl
-scalar-back I32 = refl
-scalar-back I64 = refl
-scalar-back F16 = refl
-scalar-back BF16 = refl
-scalar-back F32 = refl
-scalar-back TF32 = refl
-scalar-back F64 = refl
-scalar-back F8E4M3FN = refl
-scalar-back F8E5M2 = refl
-scalar-back F8E8M0FNU = refl
-scalar-back F4E2M1FN = refl
-scalar-back F8E5M3FNU = refl
+scalar_back : (e : Scalar) → scalar_of (first e) ≡ e
+scalar_back I1 = refl
+scalar_back I4 = refl
+scalar_back I8 = refl
+scalar_back I16 = refl
+scalar_back I32 = refl
+scalar_back I64 = refl
+scalar_back F16 = refl
+scalar_back BF16 = refl
+scalar_back F32 = refl
+scalar_back TF32 = refl
+scalar_back F64 = refl
+scalar_back F8E4M3FN = refl
+scalar_back F8E5M2 = refl
+scalar_back F8E8M0FNU = refl
+scalar_back F4E2M1FN = refl
+scalar_back F8E5M3FNU = refl
 
-padding-back : (p : Padding) → padsOf (pads-of p) ≡ p
-padding-back Absent = refl
-padding-back Zero = refl
-padding-back NegZero = refl
-padding-back Nan = refl
-padding-back PosInf = refl
-padding-back NegInf = refl
+padding_back : (p : Padding) → meant_pads (pads_of p) ≡ p
+padding_back Absent = refl
+padding_back Zero = refl
+padding_back NegZero = refl
+padding_back Nan = refl
+padding_back PosInf = refl
+padding_back NegInf = refl
 
 -- the smallest i64 is `?`, and every other number itself
-dim-back : (z : ℤ) → size (dimension-of z) ≡ z
-dim-back (pos n) = refl
-dim-back (negsuc n) = by (eqb n (2 ^ 63 - 1)) (eqb-true n (2 ^ 63 - 1))
+dim_back : (z : ℤ) → size (dimension_of z) ≡ z
+dim_back (pos n) = refl
+dim_back (negsuc n) = by (eqb n (2 ^ 63 - 1)) (eqb-true n (2 ^ 63 - 1))
   where
     by : (b : Bool) → (b ≡ true → n ≡ 2 ^ 63 - 1) → size (if b then dynamic else known (negsuc n)) ≡ negsuc n
     by true e = ap negsuc (sym (e refl))
     by false e = refl
 
-dims-back : (zs : List ℤ) → map size (map dimension-of zs) ≡ zs
-dims-back [] = refl
-dims-back (z ∷ zs) = λ i. dim-back z i ∷ dims-back zs i
+dims_back : (zs : List ℤ) → map size (map dimension_of zs) ≡ zs
+dims_back [] = refl
+dims_back (z ∷ zs) = λ i. dim_back z i ∷ dims_back zs i
 
-abbrev List-says : List ℤ → Commas ℤ → Type 0
-List-says zs c = values c ≡ zs
+abbrev ListSays : List ℤ → Commas ℤ → Type 0
+ListSays zs c = values c ≡ zs
 
-list-says : (zs : List ℤ) → When (List-says zs) (listed (λ z. z) zs)
-list-says [] = tt
-list-says (z ∷ zs) = ap (λ (l : List ℤ). z ∷ l) (plain-are zs)
+list_says : (zs : List ℤ) → When (ListSays zs) (listed (λ z. z) zs)
+list_says [] = tt
+list_says (z ∷ zs) = ap (λ (l : List ℤ). z ∷ l) (plain_are zs)
 
-record Tensor-says (e : Scalar) (m : Bool) (ds zs : List ℤ) (t : Tensor) : Type 0 where
-  pub name : scalarOf t.name ≡ e
+record TensorSays (e : Scalar) (m : Bool) (ds zs : List ℤ) (t : Tensor) : Type 0 where
+  pub name : scalar_of t.name ≡ e
   pub marked : t.marked ≡ m
   pub shape : map size t.shape ≡ ds
-  pub strides : stridesOf t.strides ≡ zs
+  pub strides : strides_of t.strides ≡ zs
 
-tensor-says : (e : Scalar) (m : Bool) (ds zs : List ℤ) → When (Tensor-says e m ds zs) (tensor-of e m ds zs)
-tensor-says e m [] [] = record { name = scalar-back e; marked = refl; shape = refl; strides = refl }
-tensor-says e m (d ∷ ds) [] = tt
-tensor-says e m [] (z ∷ zs) = record {
-  name = scalar-back e;
+tensor_says : (e : Scalar) (m : Bool) (ds zs : List ℤ) → When (TensorSays e m ds zs) (tensor_of e m ds zs)
+tensor_says e m [] [] = record { name = scalar_back e; marked = refl; shape = refl; strides = refl }
+tensor_says e m (d ∷ ds) [] = tt
+tensor_says e m [] (z ∷ zs) = record {
+  name = scalar_back e;
   marked = refl;
   shape = refl;
-  strides = ap (λ (l : List _). map size (dimension-of z ∷ l)) (entries-are dimension-of zs) ∙ dims-back (z ∷ zs);
+  strides = ap (λ (l : List _). map size (dimension_of z ∷ l)) (entries_are dimension_of zs) ∙ dims_back (z ∷ zs);
 }
-tensor-says e m (d ∷ ds) (z ∷ zs) = record {
-  name = scalar-back e;
+tensor_says e m (d ∷ ds) (z ∷ zs) = record {
+  name = scalar_back e;
   marked = refl;
-  shape = dims-back (d ∷ ds);
-  strides = ap (λ (l : List _). map size (dimension-of z ∷ l)) (entries-are dimension-of zs) ∙ dims-back (z ∷ zs);
+  shape = dims_back (d ∷ ds);
+  strides = ap (λ (l : List _). map size (dimension_of z ∷ l)) (entries_are dimension_of zs) ∙ dims_back (z ∷ zs);
 }
 
-record View-says (p : Padding) (ts : List ℤ) (Says : Tensor → Type 0) (v : View) : Type 0 where
-  pub tile : entriesOf v.tile ≡ ts
-  pub padding : padsOf v.padding ≡ p
+record ViewSays (p : Padding) (ts : List ℤ) (Says : Tensor → Type 0) (v : View) : Type 0 where
+  pub tile : entries_of v.tile ≡ ts
+  pub padding : meant_pads v.padding ≡ p
   pub tensor : Says v.tensor
 
-view-says : (p : Padding) (ts : List ℤ) (Says : Tensor → Type 0) (o : Option Tensor) → When Says o → When (View-says p ts Says) (view-of p ts o)
-view-says p [] Says o h = tt
-view-says p (t ∷ ts) Says none h = tt
-view-says p (t ∷ ts) Says (some v) h = record { tile = refl; padding = padding-back p; tensor = h }
+view_says : (p : Padding) (ts : List ℤ) (Says : Tensor → Type 0) (o : Option Tensor) → When Says o → When (ViewSays p ts Says) (view_of p ts o)
+view_says p [] Says o h = tt
+view_says p (t ∷ ts) Says none h = tt
+view_says p (t ∷ ts) Says (some v) h = record { tile = refl; padding = padding_back p; tensor = h }
 
 -- ── what its form says ──
 
 module _ (cap : ℕ) (r : Record) where
   abbrev Says : Kind → Form → Type 0
-  Says k f = mean f ≡ own-as k r
+  Says k f = mean f ≡ own_as k r
 
-  abbrev Tensor-in-says : Tensor → Type 0
-  Tensor-in-says = Tensor-says r.element r.attribute (shape-in r) (strides-in r)
+  abbrev TensorInSays : Tensor → Type 0
+  TensorInSays = TensorSays r.element r.attribute (shape_in r) (strides_in r)
 
-  abbrev View-in-says : View → Type 0
-  View-in-says = View-says r.padding (tile-in r) Tensor-in-says
+  abbrev ViewInSays : View → Type 0
+  ViewInSays = ViewSays r.padding (tile_in r) TensorInSays
 
-  tensor-in-says : When Tensor-in-says (tensor-in r)
-  tensor-in-says = tensor-says r.element r.attribute (shape-in r) (strides-in r)
+  tensor_in_says : When TensorInSays (tensor_in r)
+  tensor_in_says = tensor_says r.element r.attribute (shape_in r) (strides_in r)
 
-  view-in-says : When View-in-says (view_in r)
-  view-in-says = view-says r.padding (tile-in r) Tensor-in-says (tensor-in r) tensor-in-says
+  view_in_says : When ViewInSays (view_in r)
+  view_in_says = view_says r.padding (tile_in r) TensorInSays (tensor_in r) tensor_in_says
 
   -- a view's meaning, over its map, traversal strides and sparse dimension
-  view-is : (k : Kind) (v : View) → View-in-says v → r.pointer ≡ false → {m t : List ℤ} {z : ℤ} →
-      m ≡ map-in r → t ≡ traversal-in r → z ≡ r.sparse → view_of k v m t z ≡ own-as k r
-  view-is k v s p m t z = λ i.
+  view_is : (k : Kind) (v : View) → ViewInSays v → r.pointer ≡ false → {m t : List ℤ} {z : ℤ} →
+      m ≡ map_in r → t ≡ traversal_in r → z ≡ r.sparse → meant_view k v m t z ≡ own_as k r
+  view_is k v s p m t z = λ i.
       any k (s.tensor.name i) (sym p i) (s.tensor.marked i) (s.tensor.shape i) (s.tensor.strides i) (s.tile i) (m i) (t i) (z i) (s.padding i)
 
-  tile-is : (o : Opened cap K.Tile r) (p m : Bool) → r.pointer ≡ p → r.attribute ≡ m →
-      When (Says K.Tile) (if p then some (S.tile true (map dimension-of (shape-in r)) (S.pointer (record { front = true; name = first r.element; marked = m })))
-      else W.unless m (S.tile true (map dimension-of (shape-in r)) (S.plain (first r.element))))
-  tile-is o true m e f = λ i.
-      any K.Tile (scalar-back r.element i) (sym e i) (sym f i) (dims-back (shape-in r) i) (sym o.strides.idle i) (sym o.tile.idle i)
+  tile_is : (o : Opened cap K.Tile r) (p m : Bool) → r.pointer ≡ p → r.attribute ≡ m →
+      When (Says K.Tile) (if p then some (S.tile true (map dimension_of (shape_in r)) (S.pointer (record { front = true; name = first r.element; marked = m })))
+      else W.unless m (S.tile true (map dimension_of (shape_in r)) (S.plain (first r.element))))
+  tile_is o true m e f = λ i.
+      any K.Tile (scalar_back r.element i) (sym e i) (sym f i) (dims_back (shape_in r) i) (sym o.strides.idle i) (sym o.tile.idle i)
       (sym o.map.idle i) (sym o.traversal.idle i) (sym o.sparse i) (sym o.padding i)
-  tile-is o false true e f = tt
-  tile-is o false false e f = λ i.
-      any K.Tile (scalar-back r.element i) (sym e i) (sym f i) (dims-back (shape-in r) i) (sym o.strides.idle i) (sym o.tile.idle i)
+  tile_is o false true e f = tt
+  tile_is o false false e f = λ i.
+      any K.Tile (scalar_back r.element i) (sym e i) (sym f i) (dims_back (shape_in r) i) (sym o.strides.idle i) (sym o.tile.idle i)
       (sym o.map.idle i) (sym o.traversal.idle i) (sym o.sparse i) (sym o.padding i)
 
-  says-as : (k : Kind) → Opened cap k r → When (Says k) (form-as k r)
-  says-as K.Scalar o = when-unless (Says K.Scalar) r.attribute (S.scalar (first r.element)) (λ e i.
-      any K.Scalar (scalar-back r.element i) (sym o.pointer i) (sym e i) (sym o.shape.idle i) (sym o.strides.idle i) (sym o.tile.idle i)
+  says_as : (k : Kind) → Opened cap k r → When (Says k) (form_as k r)
+  says_as K.Scalar o = when_unless (Says K.Scalar) r.attribute (S.scalar (first r.element)) (λ e i.
+      any K.Scalar (scalar_back r.element i) (sym o.pointer i) (sym e i) (sym o.shape.idle i) (sym o.strides.idle i) (sym o.tile.idle i)
       (sym o.map.idle i) (sym o.traversal.idle i) (sym o.sparse i) (sym o.padding i))
-  says-as K.Pointer o = λ i.
-      any K.Pointer (scalar-back r.element i) (sym o.pointer i) r.attribute (sym o.shape.idle i) (sym o.strides.idle i) (sym o.tile.idle i)
+  says_as K.Pointer o = λ i.
+      any K.Pointer (scalar_back r.element i) (sym o.pointer i) r.attribute (sym o.shape.idle i) (sym o.strides.idle i) (sym o.tile.idle i)
       (sym o.map.idle i) (sym o.traversal.idle i) (sym o.sparse i) (sym o.padding i)
-  says-as K.Tile o = tile-is o r.pointer r.attribute refl refl
-  says-as K.TensorView o = when-each Tensor-in-says (Says K.TensorView) (S.tensor true) (λ t s i.
+  says_as K.Tile o = tile_is o r.pointer r.attribute refl refl
+  says_as K.TensorView o = when_each TensorInSays (Says K.TensorView) (S.tensor true) (λ t s i.
       any K.TensorView (s.name i) (sym o.pointer i) (s.marked i) (s.shape i) (s.strides i) (sym o.tile.idle i)
-      (sym o.map.idle i) (sym o.traversal.idle i) (sym o.sparse i) (sym o.padding i)) (tensor-in r) tensor-in-says
-  says-as K.Partition o =
-      when-bind View-in-says (Says K.Partition) _ (λ v s.
-      when-each (List-says (map-in r)) (Says K.Partition) (S.partition v) (λ c h.
-      view-is K.Partition v s o.pointer h (sym o.traversal.idle) (sym o.sparse))
-      (listed (λ z. z) (map-in r)) (list-says (map-in r)))
-      (view_in r) view-in-says
-  says-as K.GatherScatter o =
-      when-each View-in-says (Says K.GatherScatter) _ (λ v s.
-      view-is K.GatherScatter v s o.pointer (sym o.map.idle) (sym o.traversal.idle) refl)
-      (view_in r) view-in-says
-  says-as K.Strided o =
-      when-bind View-in-says (Says K.Strided) _ (λ v s.
-      when-bind (List-says (traversal-in r)) (Says K.Strided) _ (λ t g.
-      when-each (List-says (map-in r)) (Says K.Strided) _ (λ c h.
-      view-is K.Strided v s o.pointer h g (sym o.sparse))
-      (listed (λ z. z) (map-in r)) (list-says (map-in r)))
-      (listed (λ z. z) (traversal-in r)) (list-says (traversal-in r)))
-      (view_in r) view-in-says
-  says-as K.Token o = when-unless (Says K.Token) r.attribute (S.token true) (λ e i.
+      (sym o.map.idle i) (sym o.traversal.idle i) (sym o.sparse i) (sym o.padding i)) (tensor_in r) tensor_in_says
+  says_as K.Partition o =
+      when_bind ViewInSays (Says K.Partition) _ (λ v s.
+      when_each (ListSays (map_in r)) (Says K.Partition) (S.partition v) (λ c h.
+      view_is K.Partition v s o.pointer h (sym o.traversal.idle) (sym o.sparse))
+      (listed (λ z. z) (map_in r)) (list_says (map_in r)))
+      (view_in r) view_in_says
+  says_as K.GatherScatter o =
+      when_each ViewInSays (Says K.GatherScatter) _ (λ v s.
+      view_is K.GatherScatter v s o.pointer (sym o.map.idle) (sym o.traversal.idle) refl)
+      (view_in r) view_in_says
+  says_as K.Strided o =
+      when_bind ViewInSays (Says K.Strided) _ (λ v s.
+      when_bind (ListSays (traversal_in r)) (Says K.Strided) _ (λ t g.
+      when_each (ListSays (map_in r)) (Says K.Strided) _ (λ c h.
+      view_is K.Strided v s o.pointer h g (sym o.sparse))
+      (listed (λ z. z) (map_in r)) (list_says (map_in r)))
+      (listed (λ z. z) (traversal_in r)) (list_says (traversal_in r)))
+      (view_in r) view_in_says
+  says_as K.Token o = when_unless (Says K.Token) r.attribute (S.token true) (λ e i.
       any K.Token (sym o.element i) (sym o.pointer i) (sym e i) (sym o.shape.idle i) (sym o.strides.idle i) (sym o.tile.idle i)
       (sym o.map.idle i) (sym o.traversal.idle i) (sym o.sparse i) (sym o.padding i))
 
-  pub form-says : normal cap r ≡ true → When (λ f. mean f ≡ own r) (form r)
-  form-says n = says-as r.kind (opened cap r n)
+  pub form_says : normal cap r ≡ true → When (λ f. mean f ≡ own r) (form r)
+  form_says n = says_as r.kind (opened cap r n)
 
 -- ── laid in arrays it is the record again ──
 
-blank-back : (l : List ℤ) → T (all-zero l) → padded (length l) [] ≡ l
-blank-back [] h = refl
-blank-back (z ∷ l) h = λ i. sym (zero_is z (and_left (is_zero z) (all-zero l) h)) i ∷ blank-back l (and_right (is_zero z) (all-zero l) h) i
+blank_back : (l : List ℤ) → T (all_zero l) → padded (length l) [] ≡ l
+blank_back [] h = refl
+blank_back (z ∷ l) h = λ i. sym (zero_is z (and_left (is_zero z) (all_zero l) h)) i ∷ blank_back l (and_right (is_zero z) (all_zero l) h) i
 
-array_back : (n : ℕ) (l : List ℤ) → T (all-zero (drop n l)) → padded (length l) (take n l) ≡ l
-array_back zero l h = blank-back l h
+array_back : (n : ℕ) (l : List ℤ) → T (all_zero (drop n l)) → padded (length l) (take n l) ≡ l
+array_back zero l h = blank_back l h
 array_back (suc n) [] h = refl
 array_back (suc n) (z ∷ l) h = ap (λ (l : List ℤ). z ∷ l) (array_back n l h)
 
@@ -215,13 +215,13 @@ module _ {cap : ℕ} {used : Bool} {n : ℕ} {l : List ℤ} (k : Kept cap used n
   length_back : length (take n l) ≡ n
   length_back = length-take-le n l (omega (arith, k.within))
 
-  list-fits : T (leb (length (take n l)) cap)
-  list-fits = le→leb (length (take n l)) cap (omega (arith, k.within, length_back))
+  list_fits : T (leb (length (take n l)) cap)
+  list_fits = le→leb (length (take n l)) cap (omega (arith, k.within, length_back))
 
 module _ (cap : ℕ) (r : Record) (a : Arrays cap r) (n : normal cap r ≡ true) where
-  pub flat-own : flat-any cap (own r) ≡ r
-  unfolding flat-any
-  flat-own = let o = opened cap r n in λ i. record {
+  pub flat_own : flat_any cap (own r) ≡ r
+  unfolding flat_any
+  flat_own = let o = opened cap r n in λ i. record {
     kind = r.kind;
     element = r.element;
     pointer = r.pointer;
@@ -243,25 +243,25 @@ module _ (cap : ℕ) (r : Record) (a : Arrays cap r) (n : normal cap r ≡ true)
   abbrev within_cap : List ℤ → Bool
   within_cap zs = leb (length zs) cap
 
-  own-fits : T (fits cap (own r))
+  own_fits : T (fits cap (own r))
   unfolding fits
-  own-fits =
+  own_fits =
       let o = opened cap r n in
-      let a₁ = within_cap (shape-in r) in
-      let a₂ = a₁ && within_cap (strides-in r) in
-      let a₃ = a₂ && within_cap (tile-in r) in
-      let a₄ = a₃ && within_cap (map-in r) in
-      let h₂ = and_in a₁ (within_cap (strides-in r)) (list-fits o.shape a.shape) (list-fits o.strides a.strides) in
-      let h₃ = and_in a₂ (within_cap (tile-in r)) h₂ (list-fits o.tile a.tile) in
-      let h₄ = and_in a₃ (within_cap (map-in r)) h₃ (list-fits o.map a.map) in
-      and_in a₄ (within_cap (traversal-in r)) h₄ (list-fits o.traversal a.traversal)
+      let a₁ = within_cap (shape_in r) in
+      let a₂ = a₁ && within_cap (strides_in r) in
+      let a₃ = a₂ && within_cap (tile_in r) in
+      let a₄ = a₃ && within_cap (map_in r) in
+      let h₂ = and_in a₁ (within_cap (strides_in r)) (list_fits o.shape a.shape) (list_fits o.strides a.strides) in
+      let h₃ = and_in a₂ (within_cap (tile_in r)) h₂ (list_fits o.tile a.tile) in
+      let h₄ = and_in a₃ (within_cap (map_in r)) h₃ (list_fits o.map a.map) in
+      and_in a₄ (within_cap (traversal_in r)) h₄ (list_fits o.traversal a.traversal)
 
 -- ── a written text, read strictly ──
 
 -- a written text is strict, and its meaning is the record's own
 pub strict : (cap : ℕ) (r : Record) → Ranged r → normal cap r ≡ true → When (λ t. Strict t (own r)) (written r)
 unfolding written
-strict cap r g n = by (form r) (form-fine r g) (form-says cap r n)
+strict cap r g n = by (form r) (form_fine r g) (form_says cap r n)
   where
     by : (o : Option Form) → When Fine o → When (λ f. mean f ≡ own r) o → When (λ t. Strict t (own r)) (each spell o)
     by none k h = tt
@@ -278,4 +278,4 @@ back cap r a g n = by (written r) (strict cap r g n)
   where
     by : (o : Option Text) → When (λ t. Strict t (own r)) o → When (λ t. Judged cap t (answered r)) o
     by none h = tt
-    by (some t) h = subst (λ (x : Record). Judged cap t (answered x)) (flat-own cap r a n) (accepted (own r) h (own-fits cap r a n))
+    by (some t) h = subst (λ (x : Record). Judged cap t (answered x)) (flat_own cap r a n) (accepted (own r) h (own_fits cap r a n))

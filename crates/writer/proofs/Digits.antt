@@ -67,11 +67,11 @@ short (suc k) n h = go (ltb n 10) (ltb-true n 10) (ltb-false n 10) (short k (n /
 pub put_one : {s : Text} {a n v : ℕ} → n < 10 → v ≡ 48 + n → Put s a (digits n n []) (set s a v) (a + 1)
 put_one {s} {a} {n} {v} h e = rw (one n h, ← e) (byte s a v)
 
-pub put-more : {s t : Text} {a b n v : ℕ} → 10 ≤ n → Put s a (digits (n / 10) (n / 10) []) t b → v ≡ 48 + n % 10 → Put s a (digits n n []) (set t b v) (b + 1)
-put-more {s} {t} {a} {b} {n} {v} h p e = rw (more n h, ← e) (p then byte t b v)
+pub put_more : {s t : Text} {a b n v : ℕ} → 10 ≤ n → Put s a (digits (n / 10) (n / 10) []) t b → v ≡ 48 + n % 10 → Put s a (digits n n []) (set t b v) (b + 1)
+put_more {s} {t} {a} {b} {n} {v} h p e = rw (more n h, ← e) (p then byte t b v)
 
-pub room-one : (a n m : ℕ) → n < 10 → a + length (digits n n []) ≤ m → a + 1 ≤ m
-room-one a n m h k = rw (one n h) at k
+pub room_one : (a n m : ℕ) → n < 10 → a + length (digits n n []) ≤ m → a + 1 ≤ m
+room_one a n m h k = rw (one n h) at k
 
-pub room-more : (a n m : ℕ) → 10 ≤ n → a + length (digits n n []) ≤ m → a + length (digits (n / 10) (n / 10) []) + 1 ≤ m
-room-more a n m h k = let e = length-append (digits (n / 10) (n / 10) []) ((48 + n % 10) ∷ []) in omega (arith, rw (more n h) at k)
+pub room_more : (a n m : ℕ) → 10 ≤ n → a + length (digits n n []) ≤ m → a + length (digits (n / 10) (n / 10) []) + 1 ≤ m
+room_more a n m h k = let e = length-append (digits (n / 10) (n / 10) []) ((48 + n % 10) ∷ []) in omega (arith, rw (more n h) at k)

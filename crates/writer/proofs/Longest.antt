@@ -13,25 +13,25 @@ use Rattle.scalars.specs.declared.scalar.Scalar.TheVariants.{F8E8M0FNU}
 use Rattle.meaning.specs.declared.Kind.TheVariants as K
 use Rattle.meaning.specs.declared.Padding.TheVariants.{NegZero}
 use Rattle.meaning.specs.declared.Record.{Record}
-use Rattle.meaning.specs.Normal.{lists-clear, rest-blank, normal}
+use Rattle.meaning.specs.Normal.{lists_clear, rest_blank, normal}
 use Rattle.meaning.specs.Written.{written}
 use Rattle.writer.specs.Flat.{shown, text}
-use Rattle.writer.proofs.Short.{Ranged, text-short}
+use Rattle.writer.proofs.Short.{Ranged, text_short}
 use Rattle.writer.proofs.Same.{same}
 use Rattle.writer.proofs.Answers.{Arrays, whole, small}
 use Rattle.meaning.proofs.Whens.{When}
 
-abbrev pub At-most : ℕ → Text → Type 0
-At-most n t = length t ≤ n
+abbrev pub AtMost : ℕ → Text → Type 0
+AtMost n t = length t ≤ n
 
-pub longest : (cap : ℕ) (r : Record) → 1 ≤ cap → Arrays cap r → Ranged r → normal cap r ≡ true → When (At-most (78 * cap + 149)) (written r)
+pub longest : (cap : ℕ) (r : Record) → 1 ≤ cap → Arrays cap r → Ranged r → normal cap r ≡ true → When (AtMost (78 * cap + 149)) (written r)
 longest cap r h a g n = by (shown r) (same r (whole cap r h a))
   where
-    by : (b : Bool) → written r ≡ (if b then some (text r) else none) → When (At-most (78 * cap + 149)) (written r)
-    by true e = subst (When (At-most (78 * cap + 149))) (sym e) (text-short cap h r (small cap r n a) g)
-    by false e = subst (When (At-most (78 * cap + 149))) (sym e) tt
+    by : (b : Bool) → written r ≡ (if b then some (text r) else none) → When (AtMost (78 * cap + 149)) (written r)
+    by true e = subst (When (AtMost (78 * cap + 149))) (sym e) (text_short cap h r (small cap r n a) g)
+    by false e = subst (When (AtMost (78 * cap + 149))) (sym e) tt
 
-pub at_8 : (r : Record) → Arrays 8 r → Ranged r → normal 8 r ≡ true → When (At-most 773) (written r)
+pub at_8 : (r : Record) → Arrays 8 r → Ranged r → normal 8 r ≡ true → When (AtMost 773) (written r)
 at_8 r a g n = longest 8 r (lit≤ tt) a g n
 
 -- every list is full of the longest numbers: 20 bytes each of 64 bits, 11 of 32
@@ -63,6 +63,6 @@ pub attained : map (λ (cap : ℕ). size (written (full cap))) (8 ∷ 16 ∷ [])
 unfolding full written
 attained = refl
 
-pub full-normal : map (λ (cap : ℕ). normal cap (full cap)) (8 ∷ 16 ∷ []) ≡ true ∷ true ∷ []
-unfolding full lists-clear rest-blank normal
-full-normal = refl
+pub full_normal : map (λ (cap : ℕ). normal cap (full cap)) (8 ∷ 16 ∷ []) ≡ true ∷ true ∷ []
+unfolding full lists_clear rest_blank normal
+full_normal = refl

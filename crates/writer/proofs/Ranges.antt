@@ -21,5 +21,5 @@ below w z (x ∷ xs) (u ∷ us) (suc i) p = below w z xs us i p.1
 pub below_64 : (xs : List ℤ) (us : List Val) (i : ℕ) → shadow (each ℤ (SInt w64).own_val (map (λ (v : ℤ). v) xs) us) → mag (get_or xs i (pos 0)) < 2 ^ 63
 below_64 xs us i p = below w64 (lit< tt) xs us i (subst (λ (ys : List ℤ). shadow (each ℤ (SInt w64).own_val ys us)) (map-id xs) p)
 
-pub below-32 : (xs : List ℤ) (us : List Val) (i : ℕ) → shadow (each ℤ (SInt w32).own_val (map (λ (v : ℤ). v) xs) us) → mag (get_or xs i (pos 0)) < 2 ^ 31
-below-32 xs us i p = below w32 (lit< tt) xs us i (subst (λ (ys : List ℤ). shadow (each ℤ (SInt w32).own_val ys us)) (map-id xs) p)
+pub below_32 : (xs : List ℤ) (us : List Val) (i : ℕ) → shadow (each ℤ (SInt w32).own_val (map (λ (v : ℤ). v) xs) us) → mag (get_or xs i (pos 0)) < 2 ^ 31
+below_32 xs us i p = below w32 (lit< tt) xs us i (subst (λ (ys : List ℤ). shadow (each ℤ (SInt w32).own_val ys us)) (map-id xs) p)

@@ -12,28 +12,28 @@ use mathlib.Core.Path.{◌≡◌, refl, ap, ◌∙◌}
 use lib.Dec.{T, eqb, eqb-suc-zero}
 use lib.IntN.{ℤ, pos}
 use lib.ListN.{length, replicate}
-use Rattle.lexis.specs.Text.{Text, bytes, if◌then◌else◌, same, trim, split, onto-first, less-leading, less-trailing, Cut, nowhere, at, cut}
-use Rattle.scalars.specs.Names.{scalar-name}
+use Rattle.lexis.specs.Text.{Text, bytes, if◌then◌else◌, same, trim, split, onto_first, less_leading, less_trailing, Cut, nowhere, at, cut}
+use Rattle.scalars.specs.Names.{scalar_name}
 use Rattle.scalars.specs.declared.scalar.Scalar.{Scalar}
 use Rattle.meaning.specs.declared.Kind.{Kind}
 use Rattle.meaning.specs.declared.Kind.TheVariants as K
 use Rattle.meaning.specs.declared.Record.{Record}
 use Rattle.meaning.specs.declared.Refusal.{Refusal}
 use Rattle.meaning.specs.declared.Refusal.TheVariants.{TooLong, HighByte, NoType, TooMany}
-use Rattle.meaning.specs.Parts.{last, front, less-repeats, between, close}
-use Rattle.meaning.specs.Found.{Entry, Clause, values, padded, Found, flat, within, made, unused, plain, token, with-attribute}
+use Rattle.meaning.specs.Parts.{last, front, less_repeats, between, close}
+use Rattle.meaning.specs.Found.{Entry, Clause, values, padded, Found, flat, within, made, unused, plain, token, with_attribute}
 use Rattle.meaning.specs.Tile as M
 use Rattle.meaning.specs.Tile.{Tensor}
 use Rattle.meaning.specs.Views as W
 use Rattle.meaning.specs.Views.{View, Listed, absent, unclosed, listed}
 use Rattle.meaning.specs.Ordinary as O
 use Rattle.meaning.specs.Written.{written}
-use Rattle.writer.specs.Flat.{some_in, strides-fine, shown-as, shown, text}
+use Rattle.writer.specs.Flat.{some_in, strides_fine, shown_as, shown, text}
 use Rattle.writer.proofs.Same as Same
 use Rattle.writer.proofs.Same.{Whole}
 use Rattle.grammar.specs.Tests.{and_in, or_left, is_true}
-use Rattle.meaning.proofs.Whens.{When, when-each, all-each}
-use Rattle.meaning.proofs.Everywhere.{Read, ordinary-all}
+use Rattle.meaning.proofs.Whens.{When, when_each, all_each}
+use Rattle.meaning.proofs.Everywhere.{Read, ordinary_all}
 
 abbrev value : Entry → ℤ
 value e = e.value
@@ -52,29 +52,29 @@ stray K.Strided p = false
 stray K.Token p = true
 
 -- the lists that must have an entry
-abbrev lists-shown : Kind → Record → Bool
-lists-shown K.Scalar r = true
-lists-shown K.Pointer r = true
-lists-shown K.Tile r = true
-lists-shown K.TensorView r = strides-fine r
-lists-shown K.Partition r = some_in r.tile_len && strides-fine r && some_in r.map_len
-lists-shown K.GatherScatter r = some_in r.tile_len && strides-fine r
-lists-shown K.Strided r = some_in r.tile_len && strides-fine r && some_in r.traversal_len && some_in r.map_len
-lists-shown K.Token r = true
+abbrev lists_shown : Kind → Record → Bool
+lists_shown K.Scalar r = true
+lists_shown K.Pointer r = true
+lists_shown K.Tile r = true
+lists_shown K.TensorView r = strides_fine r
+lists_shown K.Partition r = some_in r.tile_len && strides_fine r && some_in r.map_len
+lists_shown K.GatherScatter r = some_in r.tile_len && strides_fine r
+lists_shown K.Strided r = some_in r.tile_len && strides_fine r && some_in r.traversal_len && some_in r.map_len
+lists_shown K.Token r = true
 
-tile-shown : (p a : Bool) → p || not a ≡ not (not p && a)
-tile-shown true a = refl
-tile-shown false a = refl
+tile_shown : (p a : Bool) → p || not a ≡ not (not p && a)
+tile_shown true a = refl
+tile_shown false a = refl
 
-shown-is : (k : Kind) (r : Record) → T (lists-shown k r) → shown-as k r ≡ not (stray k r.pointer && r.attribute)
-shown-is K.Scalar r h = refl
-shown-is K.Pointer r h = refl
-shown-is K.Tile r h = tile-shown r.pointer r.attribute
-shown-is K.TensorView r h = is_true (shown-as K.TensorView r) h
-shown-is K.Partition r h = is_true (shown-as K.Partition r) h
-shown-is K.GatherScatter r h = is_true (shown-as K.GatherScatter r) h
-shown-is K.Strided r h = is_true (shown-as K.Strided r) h
-shown-is K.Token r h = refl
+shown_is : (k : Kind) (r : Record) → T (lists_shown k r) → shown_as k r ≡ not (stray k r.pointer && r.attribute)
+shown_is K.Scalar r h = refl
+shown_is K.Pointer r h = refl
+shown_is K.Tile r h = tile_shown r.pointer r.attribute
+shown_is K.TensorView r h = is_true (shown_as K.TensorView r) h
+shown_is K.Partition r h = is_true (shown_as K.Partition r) h
+shown_is K.GatherScatter r h = is_true (shown_as K.GatherScatter r) h
+shown_is K.Strided r h = is_true (shown_as K.Strided r) h
+shown_is K.Token r h = refl
 
 -- ── lists with an entry ──
 
@@ -82,161 +82,161 @@ counts : (n : ℕ) → 0 < n → T (some_in n)
 counts zero h = let f : ⊥ = omega arith in absurd f
 counts (suc n) h = rw (eqb-suc-zero n) tt
 
-map-filled : {A B : Type 0} (f : A → B) (l : List A) → 0 < length l → 0 < length (L.map f l)
-map-filled f [] h = h
-map-filled f (x ∷ l) h = zero-lt-suc (length (L.map f l))
+map_filled : {A B : Type 0} (f : A → B) (l : List A) → 0 < length l → 0 < length (L.map f l)
+map_filled f [] h = h
+map_filled f (x ∷ l) h = zero-lt-suc (length (L.map f l))
 
-split-filled : (x : ℕ) (s : Text) → 0 < length (split x s)
-split-filled x [] = zero-lt-suc 0
-split-filled x (b ∷ s) = by (eqb x b) (split x s)
+split_filled : (x : ℕ) (s : Text) → 0 < length (split x s)
+split_filled x [] = zero-lt-suc 0
+split_filled x (b ∷ s) = by (eqb x b) (split x s)
   where
-    by : (c : Bool) (l : List Text) → 0 < length (if c then [] ∷ l else onto-first b l)
+    by : (c : Bool) (l : List Text) → 0 < length (if c then [] ∷ l else onto_first b l)
     by true l = zero-lt-suc (length l)
     by false [] = zero-lt-suc 0
     by false (p ∷ l) = zero-lt-suc (length l)
 
-count-up-filled : (n : ℕ) → 0 < n → 0 < length (W.count-up 0 n)
-count-up-filled zero h = h
-count-up-filled (suc n) h = zero-lt-suc (length (W.count-up 1 n))
+count_up_filled : (n : ℕ) → 0 < n → 0 < length (W.count_up 0 n)
+count_up_filled zero h = h
+count_up_filled (suc n) h = zero-lt-suc (length (W.count_up 1 n))
 
-replicate-filled : (n : ℕ) (z : ℤ) → 0 < n → 0 < length (replicate n z)
-replicate-filled zero z h = h
-replicate-filled (suc n) z h = zero-lt-suc (length (replicate n z))
+replicate_filled : (n : ℕ) (z : ℤ) → 0 < n → 0 < length (replicate n z)
+replicate_filled zero z h = h
+replicate_filled (suc n) z h = zero-lt-suc (length (replicate n z))
 
 abbrev Full : Clause → Type 0
 Full c = 0 < length (values c)
 
-entries-full : (s : Text) → Full (W.entries s)
+entries_full : (s : Text) → Full (W.entries s)
 unfolding W.entries
-entries-full s = map-filled value (L.map (W.small (pos 0)) (split (code ",") s)) (map-filled (W.small (pos 0)) (split (code ",") s) (split-filled (code ",") s))
+entries_full s = map_filled value (L.map (W.small (pos 0)) (split (code ",") s)) (map_filled (W.small (pos 0)) (split (code ",") s) (split_filled (code ",") s))
 
 -- ── what is found ──
 
 -- at any capacity: only lengths are looked at
 abbrev Rich : Found → Type 0
-Rich t = (cap : ℕ) → T (lists-shown t.kind (flat cap t))
+Rich t = (cap : ℕ) → T (lists_shown t.kind (flat cap t))
 
-abbrev Tensor-rich : Tensor → Type 0
-Tensor-rich v = T (some_in (length (values v.strides)) || eqb (length (values v.shape)) 0)
+abbrev TensorRich : Tensor → Type 0
+TensorRich v = T (some_in (length (values v.strides)) || eqb (length (values v.shape)) 0)
 
-record View-rich (v : View) : Type 0 where
+record ViewRich (v : View) : Type 0 where
   pub tile : 0 < length v.tile
-  pub tensor : Tensor-rich v.tensor
+  pub tensor : TensorRich v.tensor
 
-parts-filled : (s : Text) → 0 < length (M.stride-parts s)
-unfolding M.stride-parts
-parts-filled s = split-filled (code ",") (less-trailing (eqb (code "]")) (less-leading (eqb (code "[")) s))
+parts_filled : (s : Text) → 0 < length (M.stride_parts s)
+unfolding M.stride_parts
+parts_filled s = split_filled (code ",") (less_trailing (eqb (code "]")) (less_leading (eqb (code "[")) s))
 
 -- with the clause an entry stands; without it as many as dimensions
-tensor-of-rich : (dims : List Text) (o : Option Text) (e : Scalar) → Tensor-rich (M.tensor-of dims o e)
-tensor-of-rich [] none e = tt
-tensor-of-rich (d ∷ ds) none e =
+tensor_of_rich : (dims : List Text) (o : Option Text) (e : Scalar) → TensorRich (M.tensor_of dims o e)
+tensor_of_rich [] none e = tt
+tensor_of_rich (d ∷ ds) none e =
     let n = length (replicate (suc (length ds)) M.DYNAMIC) in
     or_left (some_in n) (eqb (length (values (M.dimensions (d ∷ ds)))) 0) (counts n (zero-lt-suc (length (replicate (length ds) M.DYNAMIC))))
-tensor-of-rich dims (some s) e =
-    let ps = M.stride-parts s in
+tensor_of_rich dims (some s) e =
+    let ps = M.stride_parts s in
     let n = length (L.map value (L.map M.dimension ps)) in
     or_left (some_in n) (eqb (length (values (M.dimensions dims))) 0)
-    (counts n (map-filled value (L.map M.dimension ps) (map-filled M.dimension ps (parts-filled s))))
+    (counts n (map_filled value (L.map M.dimension ps) (map_filled M.dimension ps (parts_filled s))))
 
-tensor-parts-rich : (s : Text) (o : Option Text) → When Tensor-rich (M.tensor-parts s o)
-unfolding M.tensor-parts
-tensor-parts-rich s o =
-    all-each Tensor-rich (M.tensor-of (front (split (code "x") s)) o) (tensor-of-rich (front (split (code "x") s)) o) (scalar-name (last (split (code "x") s)))
+tensor_parts_rich : (s : Text) (o : Option Text) → When TensorRich (M.tensor_parts s o)
+unfolding M.tensor_parts
+tensor_parts_rich s o =
+    all_each TensorRich (M.tensor_of (front (split (code "x") s)) o) (tensor_of_rich (front (split (code "x") s)) o) (scalar_name (last (split (code "x") s)))
 
-tensor-rich : (s : Text) → When Tensor-rich (M.tensor s)
+tensor_rich : (s : Text) → When TensorRich (M.tensor s)
 unfolding M.tensor
-tensor-rich s = by (cut (bytes ", strides=") s) (cut (bytes ",strides=") s)
+tensor_rich s = by (cut (bytes ", strides=") s) (cut (bytes ",strides=") s)
   where
-    by : (c d : Cut) → When Tensor-rich (M.tensor-by s c d)
-    by (at u t) d = tensor-parts-rich u (some t)
-    by nowhere (at u t) = tensor-parts-rich u (some t)
-    by nowhere nowhere = tensor-parts-rich s none
+    by : (c d : Cut) → When TensorRich (M.tensor_by s c d)
+    by (at u t) d = tensor_parts_rich u (some t)
+    by nowhere (at u t) = tensor_parts_rich u (some t)
+    by nowhere nowhere = tensor_parts_rich s none
 
-inner-rich : (o : Option Text) → When Tensor-rich (W.inner-by o)
-inner-rich none = tt
-inner-rich (some t) = tensor-rich (W.enclosed (close 0 t))
+inner_rich : (o : Option Text) → When TensorRich (W.inner_by o)
+inner_rich none = tt
+inner_rich (some t) = tensor_rich (W.enclosed (close 0 t))
 
-tile-filled : (s : Text) → 0 < length (W.tile-entries s)
-unfolding W.tile-entries
-tile-filled s = map-filled (W.small (pos 1)) (split _ s) (split-filled _ s)
+tile_filled : (s : Text) → 0 < length (W.tile_entries s)
+unfolding W.tile_entries
+tile_filled s = map_filled (W.small (pos 1)) (split _ s) (split_filled _ s)
 
-view-rich : (s : Text) → When View-rich (W.view s)
+view_rich : (s : Text) → When ViewRich (W.view s)
 unfolding W.view
-view-rich s = by (between (bytes "tile=(") (bytes ")") s)
+view_rich s = by (between (bytes "tile=(") (bytes ")") s)
   where
-    by : (c : Cut) → When View-rich (W.view-by s c)
+    by : (c : Cut) → When ViewRich (W.view_by s c)
     by nowhere = tt
-    by (at u t) = when-each Tensor-rich View-rich _ (λ v h. record { tile = tile-filled u; tensor = h }) (W.inner-by (W.opened s t)) (inner-rich (W.opened s t))
+    by (at u t) = when_each TensorRich ViewRich _ (λ v h. record { tile = tile_filled u; tensor = h }) (W.inner_by (W.opened s t)) (inner_rich (W.opened s t))
 
 -- ── what each form finds ──
 
-module _ (v : View) (h : View-rich v) where
-  own-map-full : Full (W.own-map v)
-  own-map-full = count-up-filled (length v.tile) h.tile
+module _ (v : View) (h : ViewRich v) where
+  own_map_full : Full (W.own_map v)
+  own_map_full = count_up_filled (length v.tile) h.tile
 
-  own-traversal-full : Full (W.own-traversal v)
-  own-traversal-full = replicate-filled (length v.tile) (pos 1) h.tile
+  own_traversal_full : Full (W.own_traversal v)
+  own_traversal_full = replicate_filled (length v.tile) (pos 1) h.tile
 
-  list_full : (c : Clause) → Full c → (l : Listed) → Full (W.list-or c l)
+  list_full : (c : Clause) → Full c → (l : Listed) → Full (W.list_or c l)
   list_full c k absent = k
   list_full c k unclosed = k
-  list_full c k (listed s) = entries-full s
+  list_full c k (listed s) = entries_full s
 
-  tile-counts : T (some_in (length (L.map value v.tile)))
-  tile-counts = counts (length (L.map value v.tile)) (map-filled value v.tile h.tile)
+  tile_counts : T (some_in (length (L.map value v.tile)))
+  tile_counts = counts (length (L.map value v.tile)) (map_filled value v.tile h.tile)
 
-  abbrev tile-in : Bool
-  tile-in = some_in (length (L.map value v.tile))
+  abbrev tile_in : Bool
+  tile_in = some_in (length (L.map value v.tile))
 
-  abbrev strides-in : Bool
-  strides-in = some_in (length (values v.tensor.strides)) || eqb (length (values v.tensor.shape)) 0
+  abbrev strides_in : Bool
+  strides_in = some_in (length (values v.tensor.strides)) || eqb (length (values v.tensor.shape)) 0
 
-  view-counts : T (tile-in && strides-in)
-  view-counts = and_in tile-in strides-in tile-counts h.tensor
+  view_counts : T (tile_in && strides_in)
+  view_counts = and_in tile_in strides_in tile_counts h.tensor
 
   abbrev some_of : Clause → Bool
   some_of c = some_in (length (values c))
 
-  partition-rich : (m : Clause) → Full m → Rich (W.view-of K.Partition m unused unused v)
-  unfolding flat made W.view-of
-  partition-rich m k cap = and_in (tile-in && strides-in) (some_of m) view-counts (counts (length (values m)) k)
+  partition_rich : (m : Clause) → Full m → Rich (W.view_of K.Partition m unused unused v)
+  unfolding flat made W.view_of
+  partition_rich m k cap = and_in (tile_in && strides_in) (some_of m) view_counts (counts (length (values m)) k)
 
-  gather-rich : (c : Clause) → Rich (W.view-of K.GatherScatter unused unused c v)
-  unfolding flat made W.view-of
-  gather-rich c cap = view-counts
+  gather_rich : (c : Clause) → Rich (W.view_of K.GatherScatter unused unused c v)
+  unfolding flat made W.view_of
+  gather_rich c cap = view_counts
 
-  strided-rich : (m t : Clause) → Full m → Full t → Rich (W.view-of K.Strided m t unused v)
-  unfolding flat made W.view-of
-  strided-rich m t k j cap =
-      and_in (tile-in && strides-in && some_of t) (some_of m) (and_in (tile-in && strides-in) (some_of t) view-counts (counts (length (values t)) j)) (counts (length (values m)) k)
+  strided_rich : (m t : Clause) → Full m → Full t → Rich (W.view_of K.Strided m t unused v)
+  unfolding flat made W.view_of
+  strided_rich m t k j cap =
+      and_in (tile_in && strides_in && some_of t) (some_of m) (and_in (tile_in && strides_in) (some_of t) view_counts (counts (length (values t)) j)) (counts (length (values m)) k)
 
-plain-rich : (e : Scalar) → Rich (plain K.Scalar e)
+plain_rich : (e : Scalar) → Rich (plain K.Scalar e)
 unfolding flat plain made
-plain-rich e cap = tt
+plain_rich e cap = tt
 
-pointer-rich : (e : Scalar) → Rich (plain K.Pointer e)
+pointer_rich : (e : Scalar) → Rich (plain K.Pointer e)
 unfolding flat plain made
-pointer-rich e cap = tt
+pointer_rich e cap = tt
 
-token-rich : Rich token
+token_rich : Rich token
 unfolding flat token plain made
-token-rich cap = tt
+token_rich cap = tt
 
-tile-rich : (p : Bool) (c : Clause) (e : Scalar) → Rich (M.tile-of p c e)
-unfolding flat made M.tile-of
-tile-rich p c e cap = tt
+tile_rich : (p : Bool) (c : Clause) (e : Scalar) → Rich (M.tile_of p c e)
+unfolding flat made M.tile_of
+tile_rich p c e cap = tt
 
-tensor-found-rich : (v : Tensor) → Tensor-rich v → Rich (M.tensor-found v)
-unfolding flat made M.tensor-found
-tensor-found-rich v h cap = h
+tensor_found_rich : (v : Tensor) → TensorRich v → Rich (M.tensor_found v)
+unfolding flat made M.tensor_found
+tensor_found_rich v h cap = h
 
-attribute-rich : (t : Found) → Rich t → Rich (with-attribute t)
-unfolding flat with-attribute
-attribute-rich t h cap = same_lists t.kind (flat cap t) (flat cap (with-attribute t)) refl refl refl refl refl (h cap)
+attribute_rich : (t : Found) → Rich t → Rich (with_attribute t)
+unfolding flat with_attribute
+attribute_rich t h cap = same_lists t.kind (flat cap t) (flat cap (with_attribute t)) refl refl refl refl refl (h cap)
   where
     same_lists : (k : Kind) (r q : Record) → r.shape_len ≡ q.shape_len → r.strides_len ≡ q.strides_len → r.tile_len ≡ q.tile_len →
-        r.map_len ≡ q.map_len → r.traversal_len ≡ q.traversal_len → T (lists-shown k r) → T (lists-shown k q)
+        r.map_len ≡ q.map_len → r.traversal_len ≡ q.traversal_len → T (lists_shown k r) → T (lists_shown k q)
     same_lists K.Scalar r q a b c d e h = tt
     same_lists K.Pointer r q a b c d e h = tt
     same_lists K.Tile r q a b c d e h = tt
@@ -248,58 +248,58 @@ attribute-rich t h cap = same_lists t.kind (flat cap t) (flat cap (with-attribut
 
 -- ── what each form finds ──
 
-tile-reads : (s : Text) → When Rich (M.tile s)
+tile_reads : (s : Text) → When Rich (M.tile s)
 unfolding M.tile
-tile-reads s = by (cut (bytes "ptr<") s)
+tile_reads s = by (cut (bytes "ptr<") s)
   where
-    by : (c : Cut) → When Rich (M.tile-by s c)
-    by nowhere = all-each Rich _ (tile-rich false (M.dimensions (front (split (code "x") s)))) (scalar-name (last (split (code "x") s)))
+    by : (c : Cut) → When Rich (M.tile_by s c)
+    by nowhere = all_each Rich _ (tile_rich false (M.dimensions (front (split (code "x") s)))) (scalar_name (last (split (code "x") s)))
     by (at u t) =
-        all-each Rich _ (tile-rich true (M.dimensions (M.before-pointer (less-repeats (bytes "!cuda_tile.") (trim u))))) (M.pointee (cut (bytes ">") t))
+        all_each Rich _ (tile_rich true (M.dimensions (M.before_pointer (less_repeats (bytes "!cuda_tile.") (trim u))))) (M.pointee (cut (bytes ">") t))
 
-tensor-reads : (s : Text) → When Rich (M.tensor-view s)
-unfolding M.tensor-view
-tensor-reads s = when-each Tensor-rich Rich M.tensor-found tensor-found-rich (M.tensor s) (tensor-rich s)
+tensor_reads : (s : Text) → When Rich (M.tensor_view s)
+unfolding M.tensor_view
+tensor_reads s = when_each TensorRich Rich M.tensor_found tensor_found_rich (M.tensor s) (tensor_rich s)
 
-partition-reads : (s : Text) → When Rich (W.partition-view s)
-unfolding W.partition-view
-partition-reads s = by (W.list-after (bytes "dim_map=[") s) (W.view s) (view-rich s)
+partition_reads : (s : Text) → When Rich (W.partition_view s)
+unfolding W.partition_view
+partition_reads s = by (W.list_after (bytes "dim_map=[") s) (W.view s) (view_rich s)
   where
-    by : (l : Listed) (o : Option View) → When View-rich o → When Rich (W.partition-from l o)
+    by : (l : Listed) (o : Option View) → When ViewRich o → When Rich (W.partition_from l o)
     by l none h = tt
-    by absent (some v) h = partition-rich v h (W.own-map v) (own-map-full v h)
+    by absent (some v) h = partition_rich v h (W.own_map v) (own_map_full v h)
     by unclosed (some v) h = tt
-    by (listed t) (some v) h = partition-rich v h (W.entries t) (entries-full t)
+    by (listed t) (some v) h = partition_rich v h (W.entries t) (entries_full t)
 
-gather-reads : (s : Text) → When Rich (W.gather-scatter-view s)
-unfolding W.gather-scatter-view
-gather-reads s = when-each View-rich Rich _ (λ v h. gather-rich v h (W.sparse-by (cut (bytes "sparse_dim=") s))) (W.view s) (view-rich s)
+gather_reads : (s : Text) → When Rich (W.gather_scatter_view s)
+unfolding W.gather_scatter_view
+gather_reads s = when_each ViewRich Rich _ (λ v h. gather_rich v h (W.sparse_by (cut (bytes "sparse_dim=") s))) (W.view s) (view_rich s)
 
-strided-reads : (s : Text) → When Rich (W.strided-view s)
-unfolding W.strided-view W.strided-of
-strided-reads s =
-    let m = W.list-after (bytes "dim_map=[") s in
-    let t = W.list-after (bytes "traversal_strides=[") s in
-    when-each View-rich Rich (W.strided-of m t) (λ v h.
-    strided-rich v h (W.list-or (W.own-map v) m) (W.list-or (W.own-traversal v) t)
-    (list_full v h (W.own-map v) (own-map-full v h) m) (list_full v h (W.own-traversal v) (own-traversal-full v h) t))
-    (W.view s) (view-rich s)
+strided_reads : (s : Text) → When Rich (W.strided_view s)
+unfolding W.strided_view W.strided_of
+strided_reads s =
+    let m = W.list_after (bytes "dim_map=[") s in
+    let t = W.list_after (bytes "traversal_strides=[") s in
+    when_each ViewRich Rich (W.strided_of m t) (λ v h.
+    strided_rich v h (W.list_or (W.own_map v) m) (W.list_or (W.own_traversal v) t)
+    (list_full v h (W.own_map v) (own_map_full v h) m) (list_full v h (W.own_traversal v) (own_traversal_full v h) t))
+    (W.view s) (view_rich s)
 
-pointer-reads : (s : Text) → When Rich (O.pointer s)
+pointer_reads : (s : Text) → When Rich (O.pointer s)
 unfolding O.pointer
-pointer-reads s = all-each Rich (plain K.Pointer) pointer-rich (scalar-name s)
+pointer_reads s = all_each Rich (plain K.Pointer) pointer_rich (scalar_name s)
 
 rich : Read Rich
 rich = record {
-  token-is = token-rich;
-  scalar = plain-rich;
-  pointer = pointer-reads;
-  tile = tile-reads;
-  tensor = tensor-reads;
-  partition = partition-reads;
-  gather = gather-reads;
-  strided = strided-reads;
-  attribute = attribute-rich;
+  token_is = token_rich;
+  scalar = plain_rich;
+  pointer = pointer_reads;
+  tile = tile_reads;
+  tensor = tensor_reads;
+  partition = partition_reads;
+  gather = gather_reads;
+  strided = strided_reads;
+  attribute = attribute_rich;
 }
 
 -- ── its record ──
@@ -308,44 +308,44 @@ rich = record {
 abbrev pub Readable : Record → Type 0
 Readable r = written r ≡ (if not (stray r.kind r.pointer && r.attribute) then some (text r) else none)
 
-padded-length : (cap : ℕ) (zs : List ℤ) → length (padded cap zs) ≡ cap
-padded-length zero zs = refl
-padded-length (suc cap) [] = ap suc (padded-length cap [])
-padded-length (suc cap) (z ∷ zs) = ap suc (padded-length cap zs)
+padded_length : (cap : ℕ) (zs : List ℤ) → length (padded cap zs) ≡ cap
+padded_length zero zs = refl
+padded_length (suc cap) [] = ap suc (padded_length cap [])
+padded_length (suc cap) (z ∷ zs) = ap suc (padded_length cap zs)
 
-flat-whole : (cap : ℕ) (t : Found) → 1 ≤ cap → Whole (flat cap t)
+flat_whole : (cap : ℕ) (t : Found) → 1 ≤ cap → Whole (flat cap t)
 unfolding flat
-flat-whole cap t h = record {
-  shape = rw (padded-length cap (values t.shape)) h;
-  strides = rw (padded-length cap (values t.strides)) h;
-  tile = rw (padded-length cap (values t.tile)) h;
-  map = rw (padded-length cap (values t.map)) h;
-  traversal = rw (padded-length cap (values t.traversal)) h;
+flat_whole cap t h = record {
+  shape = rw (padded_length cap (values t.shape)) h;
+  strides = rw (padded_length cap (values t.strides)) h;
+  tile = rw (padded_length cap (values t.tile)) h;
+  map = rw (padded_length cap (values t.map)) h;
+  traversal = rw (padded_length cap (values t.traversal)) h;
 }
 
-shown-flat : (cap : ℕ) (t : Found) → Rich t → shown (flat cap t) ≡ not (stray (flat cap t).kind (flat cap t).pointer && (flat cap t).attribute)
+shown_flat : (cap : ℕ) (t : Found) → Rich t → shown (flat cap t) ≡ not (stray (flat cap t).kind (flat cap t).pointer && (flat cap t).attribute)
 unfolding flat
-shown-flat cap t h = shown-is t.kind (flat cap t) (h cap)
+shown_flat cap t h = shown_is t.kind (flat cap t) (h cap)
 
-rich-readable : (cap : ℕ) (t : Found) → 1 ≤ cap → Rich t → Readable (flat cap t)
-rich-readable cap t h k =
-    Same.same (flat cap t) (flat-whole cap t h) ∙ ap (λ (b : Bool). if b then some (text (flat cap t)) else none) (shown-flat cap t k)
+rich_readable : (cap : ℕ) (t : Found) → 1 ≤ cap → Rich t → Readable (flat cap t)
+rich_readable cap t h k =
+    Same.same (flat cap t) (flat_whole cap t h) ∙ ap (λ (b : Bool). if b then some (text (flat cap t)) else none) (shown_flat cap t k)
 
 module _ (cap : ℕ) (one : 1 ≤ cap) where
-  refused-readable : (why : Refusal) (place : ℕ) → Readable (O.refused cap why place).value
+  refused_readable : (why : Refusal) (place : ℕ) → Readable (O.refused cap why place).value
   unfolding O.refused
-  refused-readable why place = rich-readable cap token one token-rich
+  refused_readable why place = rich_readable cap token one token_rich
 
-  accepted-readable : (t : Found) → Rich t → within cap t ≡ true → Readable (O.accepted cap t).value
+  accepted_readable : (t : Found) → Rich t → within cap t ≡ true → Readable (O.accepted cap t).value
   unfolding O.accepted
-  accepted-readable t h e = rich-readable cap t one h
+  accepted_readable t h e = rich_readable cap t one h
 
-  pub ordinary-readable : (size : ℕ) (s : Text) → Readable (O.ordinary cap size s).value
-  ordinary-readable size s =
-      ordinary-all Rich rich cap (λ r. Readable r.value) (record {
-        too_long = refused-readable TooLong 0;
-        high = refused-readable HighByte;
-        no-type = refused-readable NoType 0;
-        too_many = refused-readable TooMany 0;
-        accepts = accepted-readable;
+  pub ordinary_readable : (size : ℕ) (s : Text) → Readable (O.ordinary cap size s).value
+  ordinary_readable size s =
+      ordinary_all Rich rich cap (λ r. Readable r.value) (record {
+        too_long = refused_readable TooLong 0;
+        high = refused_readable HighByte;
+        no_type = refused_readable NoType 0;
+        too_many = refused_readable TooMany 0;
+        accepts = accepted_readable;
       }) size s

@@ -18,31 +18,31 @@ use Rattle.meaning.specs.Decimal.{decimal, dim}
 use Rattle.meaning.specs.Parts.{each}
 use Rattle.meaning.specs.Strict as F
 use Rattle.meaning.specs.Strict.{◌⊕◌, Tensor, Form, spell}
-use Rattle.meaning.specs.Written.{◌>>=◌, unless, listed, dimension-of, first, form-as, written, tensor-of, view-of, tensor-in, shape-in, strides-in, tile-in}
-use Rattle.meaning.specs.Written.{map-in, traversal-in}
-use Rattle.writer.specs.Flat.{behind, entry, clause32, clause64, shaped, body-text, pad-text, lead-text, travel-text, map-text, sparse-text, body-in, inner-in}
-use Rattle.writer.specs.Flat.{element-text, text-as, text, some_in, strides-fine, shown-as, shown}
+use Rattle.meaning.specs.Written.{◌>>=◌, unless, listed, dimension_of, first, form_as, written, tensor_of, view_of, tensor_in, shape_in, strides_in, tile_in}
+use Rattle.meaning.specs.Written.{map_in, traversal_in}
+use Rattle.writer.specs.Flat.{behind, entry, clause32, clause64, shaped, body_text, padding_text, lead_text, travel_text, map_text, sparse_text, body_in, inner_in}
+use Rattle.writer.specs.Flat.{element_text, text_as, text, some_in, strides_fine, shown_as, shown}
 
 -- ── lists ──
-dims-is : (zs : List ℤ) → behind (bytes "x") entry zs ++ bytes "x" ≡ 120 ∷ F.dims (map dimension-of zs)
-dims-is [] = refl
-dims-is (z ∷ zs) = ap (λ (l : Text). 120 ∷ l) (append_assoc (entry z) (behind (bytes "x") entry zs) (bytes "x") ∙ ap (λ (l : Text). entry z ++ l) (dims-is zs))
+dims_is : (zs : List ℤ) → behind (bytes "x") entry zs ++ bytes "x" ≡ 120 ∷ F.dims (map dimension_of zs)
+dims_is [] = refl
+dims_is (z ∷ zs) = ap (λ (l : Text). 120 ∷ l) (append_assoc (entry z) (behind (bytes "x") entry zs) (bytes "x") ∙ ap (λ (l : Text). entry z ++ l) (dims_is zs))
 
-shaped-is : (zs : List ℤ) → F.dims (map dimension-of zs) ≡ shaped zs
+shaped_is : (zs : List ℤ) → F.dims (map dimension_of zs) ≡ shaped zs
 unfolding clause64
-shaped-is [] = refl
-shaped-is (z ∷ zs) = sym (append_assoc (entry z) (behind (bytes "x") entry zs) (bytes "x") ∙ ap (λ (l : Text). entry z ++ l) (dims-is zs))
+shaped_is [] = refl
+shaped_is (z ∷ zs) = sym (append_assoc (entry z) (behind (bytes "x") entry zs) (bytes "x") ∙ ap (λ (l : Text). entry z ++ l) (dims_is zs))
 
-dims-then : (zs : List ℤ) (r : Text) → 120 ∷ (F.dims (map dimension-of zs) ++ r) ≡ behind (bytes "x") entry zs ++ (120 ∷ r)
-dims-then zs r = ap (λ (l : Text). l ++ r) (sym (dims-is zs)) ∙ append_assoc (behind (bytes "x") entry zs) (bytes "x") r
+dims_then : (zs : List ℤ) (r : Text) → 120 ∷ (F.dims (map dimension_of zs) ++ r) ≡ behind (bytes "x") entry zs ++ (120 ∷ r)
+dims_then zs r = ap (λ (l : Text). l ++ r) (sym (dims_is zs)) ∙ append_assoc (behind (bytes "x") entry zs) (bytes "x") r
 
-rest-is : {A : Type 0} (g : A → Text) (f : ℤ → A) (zs : List ℤ) → F.rest g (map (λ (z : ℤ). record { space = false; entry = f z }) zs) ≡ behind (bytes ",") (λ (z : ℤ). g (f z)) zs
-rest-is g f [] = refl
-rest-is g f (z ∷ zs) = ap (λ (l : Text). 44 ∷ (g (f z) ++ l)) (rest-is g f zs)
+rest_is : {A : Type 0} (g : A → Text) (f : ℤ → A) (zs : List ℤ) → F.rest g (map (λ (z : ℤ). record { space = false; entry = f z }) zs) ≡ behind (bytes ",") (λ (z : ℤ). g (f z)) zs
+rest_is g f [] = refl
+rest_is g f (z ∷ zs) = ap (λ (l : Text). 44 ∷ (g (f z) ++ l)) (rest_is g f zs)
 
-xrest-is : (zs : List ℤ) → F.xrest zs ≡ behind (bytes "x") decimal zs
-xrest-is [] = refl
-xrest-is (z ∷ zs) = ap (λ (l : Text). 120 ∷ (decimal z ++ l)) (xrest-is zs)
+xrest_is : (zs : List ℤ) → F.xrest zs ≡ behind (bytes "x") decimal zs
+xrest_is [] = refl
+xrest_is (z ∷ zs) = ap (λ (l : Text). 120 ∷ (decimal z ++ l)) (xrest_is zs)
 
 abbrev pub filled : List ℤ → Bool
 filled [] = false
@@ -58,12 +58,12 @@ Tells (some t) false x = ⊥
 abbrev fine : List ℤ → List ℤ → Bool
 fine ds zs = filled zs || not (filled ds)
 
-tensor-tells : (e : Scalar) (m : Bool) (ds zs : List ℤ) → Tells (tensor-of e m ds zs) (fine ds zs) (body-text e m ds zs)
+tensor_tells : (e : Scalar) (m : Bool) (ds zs : List ℤ) → Tells (tensor_of e m ds zs) (fine ds zs) (body_text e m ds zs)
 unfolding Tells clause64
-tensor-tells e m [] [] = refl
-tensor-tells e m (d ∷ ds) [] = tt
-tensor-tells e m [] (z ∷ zs) = simp (append_assoc, rest-is dim dimension-of zs)
-tensor-tells e m (d ∷ ds) (z ∷ zs) = simp (append_assoc, dims-then ds, rest-is dim dimension-of zs)
+tensor_tells e m [] [] = refl
+tensor_tells e m (d ∷ ds) [] = tt
+tensor_tells e m [] (z ∷ zs) = simp (append_assoc, rest_is dim dimension_of zs)
+tensor_tells e m (d ∷ ds) (z ∷ zs) = simp (append_assoc, dims_then ds, rest_is dim dimension_of zs)
 
 abbrev spelt : Option Form → Option Text
 spelt o = each spell o
@@ -71,49 +71,49 @@ spelt o = each spell o
 abbrev either : Bool → Text → Option Text
 either b x = if b then some x else none
 
-tensor-law : (o : Option Tensor) (b : Bool) (x : Text) → Tells o b x → spelt (each (F.tensor true) o) ≡ either b (bytes "!cuda_tile.tensor_view<" ⊕ x ⊕ bytes ">")
+tensor_law : (o : Option Tensor) (b : Bool) (x : Text) → Tells o b x → spelt (each (F.tensor true) o) ≡ either b (bytes "!cuda_tile.tensor_view<" ⊕ x ⊕ bytes ">")
 unfolding Tells
-tensor-law none true x k = absurd k
-tensor-law none false x k = refl
-tensor-law (some t) true x k = rw k
-tensor-law (some t) false x k = absurd k
+tensor_law none true x k = absurd k
+tensor_law none false x k = refl
+tensor_law (some t) true x k = rw k
+tensor_law (some t) false x k = absurd k
 
 module _ (p : Padding) where
   abbrev inner : Text → Text
-  inner x = pad-text p ⊕ bytes "tensor_view<" ⊕ x ⊕ bytes ">, "
+  inner x = padding_text p ⊕ bytes "tensor_view<" ⊕ x ⊕ bytes ">, "
 
-  partition-law : (ts : List ℤ) (o : Option Tensor) (b : Bool) (x : Text) (ms : List ℤ) → Tells o b x →
-      spelt (view-of p ts o >>= λ v. each (F.partition v) (listed (λ z. z) ms))
-      ≡ either (filled ts && b && filled ms) (bytes "!cuda_tile.partition_view<" ⊕ lead-text ts ⊕ inner x ⊕ map-text ms)
-  unfolding Tells clause32 sparse-text
-  partition-law [] o b x ms k = refl
-  partition-law (t ∷ ts) none true x ms k = absurd k
-  partition-law (t ∷ ts) none false x ms k = refl
-  partition-law (t ∷ ts) (some v) false x ms k = absurd k
-  partition-law (t ∷ ts) (some v) true x [] k = refl
-  partition-law (t ∷ ts) (some v) true x (m ∷ ms) k = simp (k, append_assoc, xrest-is ts, rest-is decimal (λ z. z) ms)
+  partition_law : (ts : List ℤ) (o : Option Tensor) (b : Bool) (x : Text) (ms : List ℤ) → Tells o b x →
+      spelt (view_of p ts o >>= λ v. each (F.partition v) (listed (λ z. z) ms))
+      ≡ either (filled ts && b && filled ms) (bytes "!cuda_tile.partition_view<" ⊕ lead_text ts ⊕ inner x ⊕ map_text ms)
+  unfolding Tells clause32 sparse_text
+  partition_law [] o b x ms k = refl
+  partition_law (t ∷ ts) none true x ms k = absurd k
+  partition_law (t ∷ ts) none false x ms k = refl
+  partition_law (t ∷ ts) (some v) false x ms k = absurd k
+  partition_law (t ∷ ts) (some v) true x [] k = refl
+  partition_law (t ∷ ts) (some v) true x (m ∷ ms) k = simp (k, append_assoc, xrest_is ts, rest_is decimal (λ z. z) ms)
 
-  gather-law : (ts : List ℤ) (o : Option Tensor) (b : Bool) (x : Text) (z : ℤ) → Tells o b x →
-      spelt (each (λ v. F.gather v z) (view-of p ts o))
-      ≡ either (filled ts && b) (bytes "!cuda_tile.gather_scatter_view<" ⊕ lead-text ts ⊕ inner x ⊕ sparse-text z)
-  unfolding Tells clause32 sparse-text
-  gather-law [] o b x z k = refl
-  gather-law (t ∷ ts) none true x z k = absurd k
-  gather-law (t ∷ ts) none false x z k = refl
-  gather-law (t ∷ ts) (some v) false x z k = absurd k
-  gather-law (t ∷ ts) (some v) true x z k = simp (k, append_assoc, xrest-is ts)
+  gather_law : (ts : List ℤ) (o : Option Tensor) (b : Bool) (x : Text) (z : ℤ) → Tells o b x →
+      spelt (each (λ v. F.gather v z) (view_of p ts o))
+      ≡ either (filled ts && b) (bytes "!cuda_tile.gather_scatter_view<" ⊕ lead_text ts ⊕ inner x ⊕ sparse_text z)
+  unfolding Tells clause32 sparse_text
+  gather_law [] o b x z k = refl
+  gather_law (t ∷ ts) none true x z k = absurd k
+  gather_law (t ∷ ts) none false x z k = refl
+  gather_law (t ∷ ts) (some v) false x z k = absurd k
+  gather_law (t ∷ ts) (some v) true x z k = simp (k, append_assoc, xrest_is ts)
 
-  strided-law : (ts : List ℤ) (o : Option Tensor) (b : Bool) (x : Text) (ws ms : List ℤ) → Tells o b x →
-      spelt (view-of p ts o >>= λ v. listed (λ z. z) ws >>= λ t. each (F.strided v t true) (listed (λ z. z) ms))
-      ≡ either (filled ts && b && filled ws && filled ms) (bytes "!cuda_tile.strided_view<" ⊕ lead-text ts ⊕ travel-text ws ⊕ inner x ⊕ map-text ms)
-  unfolding Tells clause32 sparse-text
-  strided-law [] o b x ws ms k = refl
-  strided-law (t ∷ ts) none true x ws ms k = absurd k
-  strided-law (t ∷ ts) none false x ws ms k = refl
-  strided-law (t ∷ ts) (some v) false x ws ms k = absurd k
-  strided-law (t ∷ ts) (some v) true x [] ms k = refl
-  strided-law (t ∷ ts) (some v) true x (w ∷ ws) [] k = refl
-  strided-law (t ∷ ts) (some v) true x (w ∷ ws) (m ∷ ms) k = simp (k, append_assoc, xrest-is ts, rest-is decimal (λ z. z) ws, rest-is decimal (λ z. z) ms)
+  strided_law : (ts : List ℤ) (o : Option Tensor) (b : Bool) (x : Text) (ws ms : List ℤ) → Tells o b x →
+      spelt (view_of p ts o >>= λ v. listed (λ z. z) ws >>= λ t. each (F.strided v t true) (listed (λ z. z) ms))
+      ≡ either (filled ts && b && filled ws && filled ms) (bytes "!cuda_tile.strided_view<" ⊕ lead_text ts ⊕ travel_text ws ⊕ inner x ⊕ map_text ms)
+  unfolding Tells clause32 sparse_text
+  strided_law [] o b x ws ms k = refl
+  strided_law (t ∷ ts) none true x ws ms k = absurd k
+  strided_law (t ∷ ts) none false x ws ms k = refl
+  strided_law (t ∷ ts) (some v) false x ws ms k = absurd k
+  strided_law (t ∷ ts) (some v) true x [] ms k = refl
+  strided_law (t ∷ ts) (some v) true x (w ∷ ws) [] k = refl
+  strided_law (t ∷ ts) (some v) true x (w ∷ ws) (m ∷ ms) k = simp (k, append_assoc, xrest_is ts, rest_is decimal (λ z. z) ws, rest_is decimal (λ z. z) ms)
 
 -- ── the record ──
 -- each array has an entry
@@ -129,50 +129,50 @@ counted n [] h = let f : ⊥ = omega arith in absurd f
 counted zero (z ∷ l) h = refl
 counted (suc n) (z ∷ l) h = rw (eqb-suc-zero n)
 
-not-not : (b : Bool) → not (not b) ≡ b
-not-not true = refl
-not-not false = refl
+not_not : (b : Bool) → not (not b) ≡ b
+not_not true = refl
+not_not false = refl
 
-plain-law : (x : Form) (m : Bool) → spelt (unless m x) ≡ either (not m) (spell x)
-plain-law x true = refl
-plain-law x false = refl
+plain_law : (x : Form) (m : Bool) → spelt (unless m x) ≡ either (not m) (spell x)
+plain_law x true = refl
+plain_law x false = refl
 
-tile-law : (p : Bool) (m : Bool) (e : Scalar) (ds : List ℤ) →
-    spelt (if p then some (F.tile true (map dimension-of ds) (F.pointer (record { front = true; name = first e; marked = m })))
-    else unless m (F.tile true (map dimension-of ds) (F.plain (first e))))
-    ≡ either (p || not m) (bytes "!cuda_tile.tile<" ⊕ shaped ds ⊕ element-text p e m ⊕ bytes ">")
-tile-law true m e ds = simp (shaped-is ds)
-tile-law false true e ds = refl
-tile-law false false e ds = simp (shaped-is ds)
+tile_law : (p : Bool) (m : Bool) (e : Scalar) (ds : List ℤ) →
+    spelt (if p then some (F.tile true (map dimension_of ds) (F.pointer (record { front = true; name = first e; marked = m })))
+    else unless m (F.tile true (map dimension_of ds) (F.plain (first e))))
+    ≡ either (p || not m) (bytes "!cuda_tile.tile<" ⊕ shaped ds ⊕ element_text p e m ⊕ bytes ">")
+tile_law true m e ds = simp (shaped_is ds)
+tile_law false true e ds = refl
+tile_law false false e ds = simp (shaped_is ds)
 
-fine-is : (r : Record) → Whole r → fine (shape-in r) (strides-in r) ≡ strides-fine r
-fine-is r w = λ i.
+fine_is : (r : Record) → Whole r → fine (shape_in r) (strides_in r) ≡ strides_fine r
+fine_is r w = λ i.
     counted r.strides_len r.strides w.strides i
-    || (ap not (counted r.shape_len r.shape w.shape) ∙ not-not (eqb r.shape_len 0)) i
+    || (ap not (counted r.shape_len r.shape w.shape) ∙ not_not (eqb r.shape_len 0)) i
 
-same-as : (k : Kind) (r : Record) → Whole r → spelt (form-as k r) ≡ either (shown-as k r) (text-as k r)
-unfolding body-in inner-in
-same-as K.Scalar r w = plain-law (F.scalar (first r.element)) r.attribute
-same-as K.Pointer r w = refl
-same-as K.Tile r w = tile-law r.pointer r.attribute r.element (shape-in r)
-same-as K.TensorView r w =
-    tensor-law (tensor-in r) (fine (shape-in r) (strides-in r)) (body-in r) (tensor-tells r.element r.attribute (shape-in r) (strides-in r))
-    ∙ λ i. either (fine-is r w i) (text-as K.TensorView r)
-same-as K.Partition r w =
-    partition-law r.padding (tile-in r) (tensor-in r) (fine (shape-in r) (strides-in r)) (body-in r) (map-in r)
-    (tensor-tells r.element r.attribute (shape-in r) (strides-in r))
-    ∙ λ i. either (counted r.tile_len r.tile w.tile i && fine-is r w i && counted r.map_len r.map w.map i) (text-as K.Partition r)
-same-as K.GatherScatter r w =
-    gather-law r.padding (tile-in r) (tensor-in r) (fine (shape-in r) (strides-in r)) (body-in r) r.sparse
-    (tensor-tells r.element r.attribute (shape-in r) (strides-in r))
-    ∙ λ i. either (counted r.tile_len r.tile w.tile i && fine-is r w i) (text-as K.GatherScatter r)
-same-as K.Strided r w =
-    strided-law r.padding (tile-in r) (tensor-in r) (fine (shape-in r) (strides-in r)) (body-in r) (traversal-in r) (map-in r)
-    (tensor-tells r.element r.attribute (shape-in r) (strides-in r))
-    ∙ λ i. either (counted r.tile_len r.tile w.tile i && fine-is r w i
-    && counted r.traversal_len r.traversal w.traversal i && counted r.map_len r.map w.map i) (text-as K.Strided r)
-same-as K.Token r w = plain-law (F.token true) r.attribute
+same_as : (k : Kind) (r : Record) → Whole r → spelt (form_as k r) ≡ either (shown_as k r) (text_as k r)
+unfolding body_in inner_in
+same_as K.Scalar r w = plain_law (F.scalar (first r.element)) r.attribute
+same_as K.Pointer r w = refl
+same_as K.Tile r w = tile_law r.pointer r.attribute r.element (shape_in r)
+same_as K.TensorView r w =
+    tensor_law (tensor_in r) (fine (shape_in r) (strides_in r)) (body_in r) (tensor_tells r.element r.attribute (shape_in r) (strides_in r))
+    ∙ λ i. either (fine_is r w i) (text_as K.TensorView r)
+same_as K.Partition r w =
+    partition_law r.padding (tile_in r) (tensor_in r) (fine (shape_in r) (strides_in r)) (body_in r) (map_in r)
+    (tensor_tells r.element r.attribute (shape_in r) (strides_in r))
+    ∙ λ i. either (counted r.tile_len r.tile w.tile i && fine_is r w i && counted r.map_len r.map w.map i) (text_as K.Partition r)
+same_as K.GatherScatter r w =
+    gather_law r.padding (tile_in r) (tensor_in r) (fine (shape_in r) (strides_in r)) (body_in r) r.sparse
+    (tensor_tells r.element r.attribute (shape_in r) (strides_in r))
+    ∙ λ i. either (counted r.tile_len r.tile w.tile i && fine_is r w i) (text_as K.GatherScatter r)
+same_as K.Strided r w =
+    strided_law r.padding (tile_in r) (tensor_in r) (fine (shape_in r) (strides_in r)) (body_in r) (traversal_in r) (map_in r)
+    (tensor_tells r.element r.attribute (shape_in r) (strides_in r))
+    ∙ λ i. either (counted r.tile_len r.tile w.tile i && fine_is r w i
+    && counted r.traversal_len r.traversal w.traversal i && counted r.map_len r.map w.map i) (text_as K.Strided r)
+same_as K.Token r w = plain_law (F.token true) r.attribute
 
 pub same : (r : Record) → Whole r → written r ≡ if shown r then some (text r) else none
 unfolding written
-same r w = same-as r.kind r w
+same r w = same_as r.kind r w

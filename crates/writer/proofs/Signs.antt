@@ -36,14 +36,14 @@ plain (negsuc n) e = let f : ◌≡◌ {A = ℕ} 0 1 = cc in let g : ⊥ = omega
 pub handed : {A : Type 0} {r : A} (f : ℤ → A) {z : ℤ} → SFits w64 z → r ≡ f (to_z w64 (of_z w64 z)) → r ≡ f z
 handed f {z} h e = e ∙ ap f (to_z-of_z w64 z h)
 
-pub is-minus : {m : ℕ} {n : Bool} (z : ℤ) → SFits w64 z → n ≡ lt_z (to_z w64 (of_z w64 z)) (pos 0) → n ≡ true → m ≡ nat_abs (to_z w64 (of_z w64 z)) → decimal z ≡ 45 ∷ digits m m []
-is-minus z f t n e = minus z (sym (handed (λ (z : ℤ). lt_z z (pos 0)) f t) ∙ n) ∙ rw (handed nat_abs f e)
+pub is_minus : {m : ℕ} {n : Bool} (z : ℤ) → SFits w64 z → n ≡ lt_z (to_z w64 (of_z w64 z)) (pos 0) → n ≡ true → m ≡ nat_abs (to_z w64 (of_z w64 z)) → decimal z ≡ 45 ∷ digits m m []
+is_minus z f t n e = minus z (sym (handed (λ (z : ℤ). lt_z z (pos 0)) f t) ∙ n) ∙ rw (handed nat_abs f e)
 
 pub is_plain : {m : ℕ} {n : Bool} (z : ℤ) → SFits w64 z → n ≡ lt_z (to_z w64 (of_z w64 z)) (pos 0) → n ≡ false → m ≡ nat_abs (to_z w64 (of_z w64 z)) → decimal z ≡ digits m m []
 is_plain z f t n e = plain z (sym (handed (λ (z : ℤ). lt_z z (pos 0)) f t) ∙ n) ∙ rw (handed nat_abs f e)
 
-pub is-dynamic : {n : Bool} (z : ℤ) → SFits w64 z → n ≡ unknown (to_z w64 (of_z w64 z)) → n ≡ true → entry z ≡ 63 ∷ []
-is-dynamic z f t n = ap (λ (b : Bool). dim (if b then dynamic else known z)) (sym (handed unknown f t) ∙ n)
+pub is_dynamic : {n : Bool} (z : ℤ) → SFits w64 z → n ≡ unknown (to_z w64 (of_z w64 z)) → n ≡ true → entry z ≡ 63 ∷ []
+is_dynamic z f t n = ap (λ (b : Bool). dim (if b then dynamic else known z)) (sym (handed unknown f t) ∙ n)
 
 pub is_known : {n : Bool} (z : ℤ) → SFits w64 z → n ≡ unknown (to_z w64 (of_z w64 z)) → n ≡ false → entry z ≡ decimal (to_z w64 (of_z w64 z))
 is_known z f t n = ap (λ (b : Bool). dim (if b then dynamic else known z)) (sym (handed unknown f t) ∙ n) ∙ ap decimal (sym (to_z-of_z w64 z f))

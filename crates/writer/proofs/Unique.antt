@@ -9,11 +9,11 @@ abbrev pub Alike : {K : Type 0} {D R S : K → Type 0} {A : Type 0} → ((κs : 
 Alike {K} {D} {R} {S} Post see = (κs : K) (a : D κs) (x y : R κs) (s t : S κs) → Post κs a x s → Post κs a y t → see κs x s ≡ see κs y t
 
 -- the answer, and the room at exit
-pub write-one : Alike write.Post (λ κs w s. outcome w s.1.0.now)
-write-one κs a x y s t p q = p ∙ sym q
+pub write_one : Alike write.Post (λ κs w s. outcome w s.1.0.now)
+write_one κs a x y s t p q = p ∙ sym q
 
-pub answer-one : Alike write.Post (λ κs w s. w)
-answer-one κs a x y s t p q = ap (λ (o : Outcome). o.answer) (write-one κs a x y s t p q)
+pub answer_one : Alike write.Post (λ κs w s. w)
+answer_one κs a x y s t p q = ap (λ (o : Outcome). o.answer) (write_one κs a x y s t p q)
 
-pub room-one : Alike write.Post (λ κs w s. s.1.0.now)
-room-one κs a x y s t p q = ap (λ (o : Outcome). o.room) (write-one κs a x y s t p q)
+pub room_one : Alike write.Post (λ κs w s. s.1.0.now)
+room_one κs a x y s t p q = ap (λ (o : Outcome). o.room) (write_one κs a x y s t p q)

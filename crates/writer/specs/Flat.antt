@@ -11,7 +11,7 @@ use Rattle.meaning.specs.declared.Record.{Record}
 use Rattle.meaning.specs.Decimal.{decimal, dim}
 use Rattle.meaning.specs.Strict as S
 use Rattle.meaning.specs.Strict.{◌⊕◌}
-use Rattle.meaning.specs.Written.{first, pads-of, dimension-of, shape-in, strides-in, tile-in, map-in, traversal-in}
+use Rattle.meaning.specs.Written.{first, pads_of, dimension_of, shape_in, strides_in, tile_in, map_in, traversal_in}
 
 -- ── lists: each further entry behind a separator; each entry before an `x` ──
 
@@ -24,7 +24,7 @@ parted sep f [] = []
 parted sep f (z ∷ zs) = f z ⊕ behind sep f zs
 
 abbrev pub entry : ℤ → Text
-entry z = dim (dimension-of z)
+entry z = dim (dimension_of z)
 
 -- a list of 64-bit numbers between two texts, or nothing where it is empty
 unfoldable pub clause64 : Text → ℕ → List ℤ → Text → Text
@@ -38,53 +38,53 @@ clause32 head sep zs tail = head ⊕ parted (sep ∷ []) decimal zs ⊕ tail
 abbrev pub shaped : List ℤ → Text
 shaped zs = clause64 [] (code "x") zs (bytes "x")
 
-abbrev pub strides-text : List ℤ → Text
-strides-text zs = clause64 (bytes ", strides=[") (code ",") zs (bytes "]")
+abbrev pub strides_text : List ℤ → Text
+strides_text zs = clause64 (bytes ", strides=[") (code ",") zs (bytes "]")
 
 abbrev pub word_of : Scalar → Text
 word_of e = S.word (first e)
 
-abbrev pub body-text : Scalar → Bool → List ℤ → List ℤ → Text
-body-text e m ds zs = shaped ds ⊕ word_of e ⊕ strides-text zs ⊕ S.mark m
+abbrev pub body_text : Scalar → Bool → List ℤ → List ℤ → Text
+body_text e m ds zs = shaped ds ⊕ word_of e ⊕ strides_text zs ⊕ S.mark m
 
-abbrev pub pointer-text : Scalar → Bool → Text
-pointer-text e m = bytes "!cuda_tile.ptr<" ⊕ word_of e ⊕ S.mark m ⊕ bytes ">"
+abbrev pub pointer_text : Scalar → Bool → Text
+pointer_text e m = bytes "!cuda_tile.ptr<" ⊕ word_of e ⊕ S.mark m ⊕ bytes ">"
 
-abbrev pub pad-text : Padding → Text
-pad-text p = S.padText (pads-of p)
+abbrev pub padding_text : Padding → Text
+padding_text p = S.pad_text (pads_of p)
 
-abbrev pub lead-text : List ℤ → Text
-lead-text ts = clause32 (bytes "tile=(") (code "x") ts (bytes "), ")
+abbrev pub lead_text : List ℤ → Text
+lead_text ts = clause32 (bytes "tile=(") (code "x") ts (bytes "), ")
 
-abbrev pub travel-text : List ℤ → Text
-travel-text ts = clause32 (bytes "traversal_strides=[") (code ",") ts (bytes "], ")
+abbrev pub travel_text : List ℤ → Text
+travel_text ts = clause32 (bytes "traversal_strides=[") (code ",") ts (bytes "], ")
 
-abbrev pub map-text : List ℤ → Text
-map-text ms = clause32 (bytes "dim_map=[") (code ",") ms (bytes "]>")
+abbrev pub map_text : List ℤ → Text
+map_text ms = clause32 (bytes "dim_map=[") (code ",") ms (bytes "]>")
 
-unfoldable pub sparse-text : ℤ → Text
-sparse-text z = bytes "sparse_dim=" ⊕ decimal z ⊕ bytes ">"
+unfoldable pub sparse_text : ℤ → Text
+sparse_text z = bytes "sparse_dim=" ⊕ decimal z ⊕ bytes ">"
 
-unfoldable pub body-in : Record → Text
-body-in r = body-text r.element r.attribute (shape-in r) (strides-in r)
+unfoldable pub body_in : Record → Text
+body_in r = body_text r.element r.attribute (shape_in r) (strides_in r)
 
 -- padding and tensor view
-unfoldable pub inner-in : Record → Text
-inner-in r = pad-text r.padding ⊕ bytes "tensor_view<" ⊕ body-in r ⊕ bytes ">, "
+unfoldable pub inner_in : Record → Text
+inner_in r = padding_text r.padding ⊕ bytes "tensor_view<" ⊕ body_in r ⊕ bytes ">, "
 
-abbrev pub element-text : Bool → Scalar → Bool → Text
-element-text true e m = pointer-text e m
-element-text false e m = word_of e
+abbrev pub element_text : Bool → Scalar → Bool → Text
+element_text true e m = pointer_text e m
+element_text false e m = word_of e
 
 -- a strided view's traversal strides; in the other views nothing
-abbrev pub travel-when : Bool → Record → Text
-travel-when true r = travel-text (traversal-in r)
-travel-when false r = []
+abbrev pub travel_when : Bool → Record → Text
+travel_when true r = travel_text (traversal_in r)
+travel_when false r = []
 
 -- a gather/scatter view's sparse dimension; in the other views the map
-abbrev pub last-when : Bool → Record → Text
-last-when true r = sparse-text r.sparse
-last-when false r = map-text (map-in r)
+abbrev pub last_when : Bool → Record → Text
+last_when true r = sparse_text r.sparse
+last_when false r = map_text (map_in r)
 
 abbrev pub head_as : Kind → Text
 head_as K.Scalar = []
@@ -96,61 +96,61 @@ head_as K.GatherScatter = bytes "!cuda_tile.gather_scatter_view<"
 head_as K.Strided = bytes "!cuda_tile.strided_view<"
 head_as K.Token = bytes "!cuda_tile.token"
 
-abbrev pub tile-text : Record → Text
-tile-text r = shaped (shape-in r) ⊕ element-text r.pointer r.element r.attribute ⊕ bytes ">"
+abbrev pub tile_text : Record → Text
+tile_text r = shaped (shape_in r) ⊕ element_text r.pointer r.element r.attribute ⊕ bytes ">"
 
-abbrev pub tensor-text : Record → Text
-tensor-text r = body-in r ⊕ bytes ">"
+abbrev pub tensor_text : Record → Text
+tensor_text r = body_in r ⊕ bytes ">"
 
-abbrev pub view-text : Bool → Bool → Record → Text
-view-text strided gather r = lead-text (tile-in r) ⊕ travel-when strided r ⊕ inner-in r ⊕ last-when gather r
+abbrev pub view_text : Bool → Bool → Record → Text
+view_text strided gather r = lead_text (tile_in r) ⊕ travel_when strided r ⊕ inner_in r ⊕ last_when gather r
 
 -- what stands behind the head
-abbrev pub rest-as : Kind → Record → Text
-rest-as K.Scalar r = word_of r.element
-rest-as K.Pointer r = pointer-text r.element r.attribute
-rest-as K.Tile r = tile-text r
-rest-as K.TensorView r = tensor-text r
-rest-as K.Partition r = view-text false false r
-rest-as K.GatherScatter r = view-text false true r
-rest-as K.Strided r = view-text true false r
-rest-as K.Token r = []
+abbrev pub rest_as : Kind → Record → Text
+rest_as K.Scalar r = word_of r.element
+rest_as K.Pointer r = pointer_text r.element r.attribute
+rest_as K.Tile r = tile_text r
+rest_as K.TensorView r = tensor_text r
+rest_as K.Partition r = view_text false false r
+rest_as K.GatherScatter r = view_text false true r
+rest_as K.Strided r = view_text true false r
+rest_as K.Token r = []
 
-abbrev pub text-as : Kind → Record → Text
-text-as k r = head_as k ⊕ rest-as k r
+abbrev pub text_as : Kind → Record → Text
+text_as k r = head_as k ⊕ rest_as k r
 
 abbrev pub text : Record → Text
-text r = text-as r.kind r
+text r = text_as r.kind r
 
 -- which records have a text
 abbrev pub some_in : ℕ → Bool
 some_in n = not (eqb n 0)
 
-abbrev pub strides-fine : Record → Bool
-strides-fine r = some_in r.strides_len || eqb r.shape_len 0
+abbrev pub strides_fine : Record → Bool
+strides_fine r = some_in r.strides_len || eqb r.shape_len 0
 
-abbrev pub shown-as : Kind → Record → Bool
-shown-as K.Scalar r = not r.attribute
-shown-as K.Pointer r = true
-shown-as K.Tile r = r.pointer || not r.attribute
-shown-as K.TensorView r = strides-fine r
-shown-as K.Partition r = some_in r.tile_len && strides-fine r && some_in r.map_len
-shown-as K.GatherScatter r = some_in r.tile_len && strides-fine r
-shown-as K.Strided r = some_in r.tile_len && strides-fine r && some_in r.traversal_len && some_in r.map_len
-shown-as K.Token r = not r.attribute
+abbrev pub shown_as : Kind → Record → Bool
+shown_as K.Scalar r = not r.attribute
+shown_as K.Pointer r = true
+shown_as K.Tile r = r.pointer || not r.attribute
+shown_as K.TensorView r = strides_fine r
+shown_as K.Partition r = some_in r.tile_len && strides_fine r && some_in r.map_len
+shown_as K.GatherScatter r = some_in r.tile_len && strides_fine r
+shown_as K.Strided r = some_in r.tile_len && strides_fine r && some_in r.traversal_len && some_in r.map_len
+shown_as K.Token r = not r.attribute
 
 abbrev pub shown : Record → Bool
-shown r = shown-as r.kind r
+shown r = shown_as r.kind r
 
 -- no length over the capacity, each array as long as it
 pub record Small (cap : ℕ) (r : Record) : Type 0 where
   pub shape : r.shape_len ≤ cap
-  pub shape-array : length r.shape ≡ cap
+  pub shape_array : length r.shape ≡ cap
   pub strides : r.strides_len ≤ cap
-  pub strides-array : length r.strides ≡ cap
+  pub strides_array : length r.strides ≡ cap
   pub tile : r.tile_len ≤ cap
-  pub tile-array : length r.tile ≡ cap
+  pub tile_array : length r.tile ≡ cap
   pub map : r.map_len ≤ cap
-  pub map-array : length r.map ≡ cap
+  pub map_array : length r.map ≡ cap
   pub traversal : r.traversal_len ≤ cap
-  pub traversal-array : length r.traversal ≡ cap
+  pub traversal_array : length r.traversal ≡ cap

@@ -1,12 +1,12 @@
 // Whether a normal record has a text.
 ghost use Rattle.std.specs.Prelude.{◌≡◌};
-ghost use Rattle.writer.specs.Flat.{strides-fine, shown};
+ghost use Rattle.writer.specs.Flat.{strides_fine, shown};
 
 use meaning::{Kind, Record};
 
 // Empty strides have a text with an empty shape only.
 fn strides_ok(r: Record) -> bool
-    ensures { result ≡ strides-fine r }
+    ensures { result ≡ strides_fine r }
 {
     (r.strides_len != 0) | (r.shape_len == 0)
 }

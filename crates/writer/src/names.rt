@@ -1,7 +1,7 @@
 // Heads of kinds, names of scalars and clauses of paddings, put from tables.
 ghost use Rattle.std.specs.Prelude.{ℕ, ◌+◌, ◌≤◌, length};
 ghost use Rattle.writer.specs.Room.{Put};
-ghost use Rattle.writer.specs.Flat.{word_of, pad-text, head_as};
+ghost use Rattle.writer.specs.Flat.{word_of, padding_text, head_as};
 ghost use Rattle.writer.specs.Held.{names, paddings, heads, piece, Lies};
 
 use super::put::put_bytes;
@@ -50,7 +50,7 @@ fn scalar_span(e: Scalar) -> Span
 }
 
 fn padding_span(p: Padding) -> Span
-    ensures { Lies paddings (pad-text p) result }
+    ensures { Lies paddings (padding_text p) result }
 {
     match p {
         Padding::Absent => Span { from: 0, len: 0 },
@@ -91,8 +91,8 @@ pub(crate) fn put_scalar(out: &mut [u8], at: usize, e: Scalar) -> usize
 }
 
 pub(crate) fn put_padding(out: &mut [u8], at: usize, p: Padding) -> usize
-    requires { at + length (pad-text p) ≤ length out.old }
-    ensures { Put out.old at (pad-text p) out.new result }
+    requires { at + length (padding_text p) ≤ length out.old }
+    ensures { Put out.old at (padding_text p) out.new result }
 {
     let s = padding_span(p);
     put_piece(

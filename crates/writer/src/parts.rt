@@ -2,8 +2,8 @@
 ghost use Rattle.std.specs.Prelude.{ℕ, ◌+◌, ◌≤◌, length};
 ghost use Rattle.meaning.specs.Strict.{mark};
 ghost use Rattle.writer.specs.Room.{Put};
-ghost use Rattle.meaning.specs.Written.{shape-in, strides-in, tile-in};
-ghost use Rattle.writer.specs.Flat.{Small, body-in, inner-in, pointer-text, element-text, shaped, strides-text, lead-text, travel-when, sparse-text, last-when};
+ghost use Rattle.meaning.specs.Written.{shape_in, strides_in, tile_in};
+ghost use Rattle.writer.specs.Flat.{Small, body_in, inner_in, pointer_text, element_text, shaped, strides_text, lead_text, travel_when, sparse_text, last_when};
 
 use super::lists::{put_clause32, put_clause64};
 use super::names::{put_padding, put_scalar};
@@ -25,8 +25,8 @@ fn put_mark(out: &mut [u8], at: usize, attribute: bool) -> usize
 // A shape, with an `x` behind each entry.
 pub(crate) fn put_shape(out: &mut [u8], at: usize, r: Record) -> usize
     requires small { Small 8 r }
-    requires r_in_bounds { at + length (shaped (shape-in r)) ≤ length out.old }
-    ensures { Put out.old at (shaped (shape-in r)) out.new result }
+    requires r_in_bounds { at + length (shaped (shape_in r)) ≤ length out.old }
+    ensures { Put out.old at (shaped (shape_in r)) out.new result }
 {
     let l = r.shape;
     put_clause64(out, at, b"", l, r.shape_len, b'x', b"x")
@@ -35,8 +35,8 @@ pub(crate) fn put_shape(out: &mut [u8], at: usize, r: Record) -> usize
 // `, strides=[..]`, or nothing.
 fn put_strides(out: &mut [u8], at: usize, r: Record) -> usize
     requires small { Small 8 r }
-    requires r_in_bounds { at + length (strides-text (strides-in r)) ≤ length out.old }
-    ensures { Put out.old at (strides-text (strides-in r)) out.new result }
+    requires r_in_bounds { at + length (strides_text (strides_in r)) ≤ length out.old }
+    ensures { Put out.old at (strides_text (strides_in r)) out.new result }
 {
     let l = r.strides;
     put_clause64(out, at, b", strides=[", l, r.strides_len, b',', b"]")
@@ -45,8 +45,8 @@ fn put_strides(out: &mut [u8], at: usize, r: Record) -> usize
 // What stands in a tensor view's brackets.
 pub(crate) fn put_body(out: &mut [u8], at: usize, r: Record) -> usize
     requires small { Small 8 r }
-    requires r_in_bounds { at + length (body-in r) ≤ length out.old }
-    ensures { Put out.old at (body-in r) out.new result }
+    requires r_in_bounds { at + length (body_in r) ≤ length out.old }
+    ensures { Put out.old at (body_in r) out.new result }
 {
     let element = r.element;
     let a = put_shape(out, at, r);
@@ -57,8 +57,8 @@ pub(crate) fn put_body(out: &mut [u8], at: usize, r: Record) -> usize
 
 // A pointer, with the prefix.
 pub(crate) fn put_pointer(out: &mut [u8], at: usize, e: Scalar, attribute: bool) -> usize
-    requires { at + length (pointer-text e attribute) ≤ length out.old }
-    ensures { Put out.old at (pointer-text e attribute) out.new result }
+    requires { at + length (pointer_text e attribute) ≤ length out.old }
+    ensures { Put out.old at (pointer_text e attribute) out.new result }
 {
     let a = put_bytes(out, at, b"!cuda_tile.ptr<");
     let b = put_scalar(out, a, e);
@@ -69,8 +69,8 @@ pub(crate) fn put_pointer(out: &mut [u8], at: usize, e: Scalar, attribute: bool)
 // A view's tile shape, with `x` between.
 pub(crate) fn put_lead(out: &mut [u8], at: usize, r: Record) -> usize
     requires small { Small 8 r }
-    requires r_in_bounds { at + length (lead-text (tile-in r)) ≤ length out.old }
-    ensures { Put out.old at (lead-text (tile-in r)) out.new result }
+    requires r_in_bounds { at + length (lead_text (tile_in r)) ≤ length out.old }
+    ensures { Put out.old at (lead_text (tile_in r)) out.new result }
 {
     let l = r.tile;
     put_clause32(out, at, b"tile=(", l, r.tile_len, b'x', b"), ")
@@ -79,8 +79,8 @@ pub(crate) fn put_lead(out: &mut [u8], at: usize, r: Record) -> usize
 // A strided view's traversal strides; in the other views nothing.
 pub(crate) fn put_travel(out: &mut [u8], at: usize, r: Record, strided: bool) -> usize
     requires small { Small 8 r }
-    requires r_in_bounds { at + length (travel-when strided r) ≤ length out.old }
-    ensures { Put out.old at (travel-when strided r) out.new result }
+    requires r_in_bounds { at + length (travel_when strided r) ≤ length out.old }
+    ensures { Put out.old at (travel_when strided r) out.new result }
 {
     if strided {
         let l = r.traversal;
@@ -98,8 +98,8 @@ pub(crate) fn put_travel(out: &mut [u8], at: usize, r: Record, strided: bool) ->
 }
 
 fn put_sparse(out: &mut [u8], at: usize, r: Record) -> usize
-    requires { at + length (sparse-text r.sparse) ≤ length out.old }
-    ensures { Put out.old at (sparse-text r.sparse) out.new result }
+    requires { at + length (sparse_text r.sparse) ≤ length out.old }
+    ensures { Put out.old at (sparse_text r.sparse) out.new result }
 {
     let a = put_bytes(out, at, b"sparse_dim=");
     let b = put_small(out, a, r.sparse);
@@ -109,8 +109,8 @@ fn put_sparse(out: &mut [u8], at: usize, r: Record) -> usize
 // A gather/scatter view's sparse dimension, in the other views the map; and the `>` that closes the view.
 pub(crate) fn put_last(out: &mut [u8], at: usize, r: Record, gather: bool) -> usize
     requires small { Small 8 r }
-    requires r_in_bounds { at + length (last-when gather r) ≤ length out.old }
-    ensures { Put out.old at (last-when gather r) out.new result }
+    requires r_in_bounds { at + length (last_when gather r) ≤ length out.old }
+    ensures { Put out.old at (last_when gather r) out.new result }
 {
     if gather {
         return put_sparse(out, at, r);
@@ -127,8 +127,8 @@ pub(crate) fn put_element(
     e: Scalar,
     attribute: bool,
 ) -> usize
-    requires { at + length (element-text pointer e attribute) ≤ length out.old }
-    ensures { Put out.old at (element-text pointer e attribute) out.new result }
+    requires { at + length (element_text pointer e attribute) ≤ length out.old }
+    ensures { Put out.old at (element_text pointer e attribute) out.new result }
 {
     if pointer {
         return put_pointer(out, at, e, attribute);
@@ -139,8 +139,8 @@ pub(crate) fn put_element(
 // Padding and tensor view.
 pub(crate) fn put_inner(out: &mut [u8], at: usize, r: Record) -> usize
     requires small { Small 8 r }
-    requires r_in_bounds { at + length (inner-in r) ≤ length out.old }
-    ensures { Put out.old at (inner-in r) out.new result }
+    requires r_in_bounds { at + length (inner_in r) ≤ length out.old }
+    ensures { Put out.old at (inner_in r) out.new result }
 {
     let padding = r.padding;
     let a = put_padding(out, at, padding);

@@ -1,7 +1,7 @@
 // The text of each kind of record, put part by part.
 ghost use Rattle.std.specs.Prelude.{ℕ, ◌+◌, ◌≤◌, length};
 ghost use Rattle.writer.specs.Room.{Put};
-ghost use Rattle.writer.specs.Flat.{Small, tile-text, tensor-text, view-text, rest-as, text};
+ghost use Rattle.writer.specs.Flat.{Small, tile_text, tensor_text, view_text, rest_as, text};
 
 use super::names::{put_head, put_scalar};
 use super::parts::{
@@ -12,8 +12,8 @@ use meaning::{Kind, Record};
 
 fn put_tile(out: &mut [u8], at: usize, r: Record) -> usize
     requires small { Small 8 r }
-    requires r_in_bounds { at + length (tile-text r) ≤ length out.old }
-    ensures { Put out.old at (tile-text r) out.new result }
+    requires r_in_bounds { at + length (tile_text r) ≤ length out.old }
+    ensures { Put out.old at (tile_text r) out.new result }
 {
     let element = r.element;
     let a = put_shape(out, at, r);
@@ -23,8 +23,8 @@ fn put_tile(out: &mut [u8], at: usize, r: Record) -> usize
 
 fn put_tensor(out: &mut [u8], at: usize, r: Record) -> usize
     requires small { Small 8 r }
-    requires r_in_bounds { at + length (tensor-text r) ≤ length out.old }
-    ensures { Put out.old at (tensor-text r) out.new result }
+    requires r_in_bounds { at + length (tensor_text r) ≤ length out.old }
+    ensures { Put out.old at (tensor_text r) out.new result }
 {
     let a = put_body(out, at, r);
     put_byte(out, a, b'>')
@@ -32,8 +32,8 @@ fn put_tensor(out: &mut [u8], at: usize, r: Record) -> usize
 
 fn put_view(out: &mut [u8], at: usize, r: Record, strided: bool, gather: bool) -> usize
     requires small { Small 8 r }
-    requires r_in_bounds { at + length (view-text strided gather r) ≤ length out.old }
-    ensures { Put out.old at (view-text strided gather r) out.new result }
+    requires r_in_bounds { at + length (view_text strided gather r) ≤ length out.old }
+    ensures { Put out.old at (view_text strided gather r) out.new result }
 {
     let a = put_lead(out, at, r);
     let b = put_travel(out, a, r, strided);
@@ -44,8 +44,8 @@ fn put_view(out: &mut [u8], at: usize, r: Record, strided: bool, gather: bool) -
 // What stands behind the head, by the kind.
 fn put_rest(out: &mut [u8], at: usize, r: Record) -> usize
     requires small { Small 8 r }
-    requires r_in_bounds { at + length (rest-as r.kind r) ≤ length out.old }
-    ensures { Put out.old at (rest-as r.kind r) out.new result }
+    requires r_in_bounds { at + length (rest_as r.kind r) ≤ length out.old }
+    ensures { Put out.old at (rest_as r.kind r) out.new result }
 {
     let kind = r.kind;
     let element = r.element;

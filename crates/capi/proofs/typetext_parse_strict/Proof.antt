@@ -9,4 +9,4 @@ typetext-parse-strict-spec =
     (tie.spec
     (λ c κs. search rules)
     (λ c κs. search rules)
-    (λ c. record { reading = c.before.parse-strict.result; strictly = c.before.parse-strict.ensures; numbers = c.in-numbers.ensures }))
+    (λ c. record { reading = c.before.parse-strict.result; strictly = c.before.parse-strict.ensures; numbers = c.in_numbers.ensures }))

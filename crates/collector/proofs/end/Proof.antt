@@ -139,10 +139,10 @@ module _ {M : Type 1} {𝓤 : Ura M} (𝓛 : Logic 𝓤) (at_mem : Memory → SP
         -- [the cell; what the collector owns; the open borrow; obs; auth; true; true; _5; …; _4; …; _3; …; _2; …; _1; …; room for _0; …]
         assigns ! (of_opd ! (load ! (from ! (hop ! (look ! 15 refl) (stop !))) (look ! 0 refl))) (from ! (stop !)) (init ! 9 refl ((LL.lawful T.the_type T'.the_laws 𝓛).typed h _ was).0) $
         -- the call of `verdict`
-        owned ! R (Is R) ((LL.makes T.the_type T'.the_plain) 𝓛) h _ was $ use1 𝓛 (raw ((Verdict 𝓛 at_mem run).pre (Asked.to-verdict 𝓛 at_mem run h))) (Asked.goes-verdict 𝓛 at_mem run h) $
-        calls_at ! fm (Verdict 𝓛 at_mem run) known-verdict (Asked.to-verdict 𝓛 at_mem run h) (and_then ! (load ! (from ! (stop !)) (look ! 10 refl)) (no_more !)) (λ w.
+        owned ! R (Is R) ((LL.makes T.the_type T'.the_plain) 𝓛) h _ was $ use1 𝓛 (raw ((Verdict 𝓛 at_mem run).pre (Asked.to_verdict 𝓛 at_mem run h))) (Asked.goes_verdict 𝓛 at_mem run h) $
+        calls_at ! fm (Verdict 𝓛 at_mem run) known-verdict (Asked.to_verdict 𝓛 at_mem run h) (and_then ! (load ! (from ! (stop !)) (look ! 10 refl)) (no_more !)) (λ w.
         use1 𝓛 (later (some (λ (t : Fed). (‵ ftrue ⊛ ‵ ((N.the_row).own_val t (w ∷ []))) ⊛ raw (ensured 𝓛 verdict.ended (verdict.clauses 𝓛 at_mem run) tt (h, tt) tt t)))) (id⊢ 𝓤 _) $ await ! tt $ pick ! (λ t.
-        split ! $ move ! (1 ∷ []) $ use1 𝓛 (raw (fact 𝓤 (t ≡ told 1024 h))) (Asked.verdict-said 𝓛 at_mem run h t) $ heard ! (t ≡ told 1024 h) (λ e. split ! $ drop ! $
+        split ! $ move ! (1 ∷ []) $ use1 𝓛 (raw (fact 𝓤 (t ≡ told 1024 h))) (Asked.verdict_said 𝓛 at_mem run h t) $ heard ! (t ≡ told 1024 h) (λ e. split ! $ drop ! $
         peeks ! N.the_row (Is N.the_row) (shows 𝓛 N.the_row) t (w ∷ []) (λ is₁.
         land ! (from ! (stop !)) (init ! 14 refl ((EL.lawful N.the_type N'.the_laws 𝓛 tt).typed t _ is₁).0) $
         -- [the verdict; the cell; what the collector owns; the open borrow; obs; auth; true; true; _5; …; _4; …; _3; …; _2; …; _1; …; room for _0; …]

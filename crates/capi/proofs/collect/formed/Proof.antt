@@ -13,4 +13,4 @@ formed-spec =
     (λ c. L.wrong_size 1024 c.before.args.block.now c.if1.true)
     (λ c. search rules)
     (λ c. search rules)
-    (λ c. L.by-mark 1024 c.before.before.args.block.now (omega arith)))
+    (λ c. L.by_mark 1024 c.before.before.args.block.now (omega arith)))

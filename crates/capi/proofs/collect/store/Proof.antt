@@ -6,7 +6,7 @@ use mathlib.Core.List.{[], ◌∷◌, ◌++◌}
 use mathlib.Core.Path.{ap, ◌∙◌}
 use lib.ListN.{take}
 use mir.Val.{bool_byte}
-use Rattle.numbers.proofs.Numbers.{flag-byte}
+use Rattle.numbers.proofs.Numbers.{flag_byte}
 use Rattle.capi.proofs.Blocks as L
 use Rattle.capi.proofs.collect.store.Statement.{statement}
 use Rattle.capi.proofs.collect.store.Tie as tie
@@ -25,5 +25,5 @@ store_spec =
     (λ c. search rules)
     (λ c. search rules)
     (λ c. let a = c.args in
-    L.laid-behind a.block.now 1024 (a.len / 256) (a.len % 256) (bool_byte a.over) c.requires.0
-    ∙ ap (λ (z : ℕ). take 1024 a.block.now ++ (a.len / 256) ∷ (a.len % 256) ∷ z ∷ []) (flag-byte a.over)))
+    L.laid_behind a.block.now 1024 (a.len / 256) (a.len % 256) (bool_byte a.over) c.requires.0
+    ∙ ap (λ (z : ℕ). take 1024 a.block.now ++ (a.len / 256) ∷ (a.len % 256) ∷ z ∷ []) (flag_byte a.over)))

@@ -13,7 +13,7 @@ typetext-feed-spec =
     (tie.spec
     (λ c κs. search rules)
     (λ c. search rules)
-    (λ c. L.feed-none 1024 c.before.before.before.before.before.args.block.now c.before.before.before.before.before.args.piece.now (sym c.before.formed.ensures ∙ not-true _ c.if1.true))
+    (λ c. L.feed_none 1024 c.before.before.before.before.before.args.block.now c.before.before.before.before.before.args.piece.now (sym c.before.formed.ensures ∙ not-true _ c.if1.true))
     (λ c. let l = L.long 1024 c.before.before.before.before.before.before.args.block.now (sym c.before.before.formed.ensures ∙ not-false _ c.before.if1.false) in omega arith)
     (λ c. search rules)
     (λ c. let l = L.long 1024 c.before.before.before.before.before.before.before.args.block.now (sym c.before.before.before.formed.ensures ∙ not-false _ c.before.before.if1.false) in omega arith)

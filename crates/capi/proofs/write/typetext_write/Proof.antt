@@ -41,7 +41,7 @@ use denote.Triple.Spec.{Meets, triple_of}
 use denote.Triple.Table.{entered, cited}
 use denote.Triple.Walked.{says, Stays, stay_none_ref, gave_slice, walk_of, Goes-none_ref, Goes-gave_slice, Walks, ends_at, walked, walk_Meets}
 use denote.Exit.{yes}
-use Rattle.capi.specs.Abi.{outcome, write-numbers}
+use Rattle.capi.specs.Abi.{outcome, write_numbers}
 use Rattle.numbers.specs.declared.TypetextRecord.{TypetextRecord}
 use Rattle.capi.specs.declared.write.TypetextWritten.{TypetextWritten}
 use Rattle.numbers.specs.contracts.TypetextRecord as T
@@ -100,7 +100,7 @@ module _ {M : Type 1} {𝓤 : Ura M} (𝓛 : Logic 𝓤) (mem : Memory → SProp
   Own = (MutSlice (named 1) κ' u8).own_val x (s ∷ [])
 
   abbrev Said : TypetextWritten → List ℕ → Type 0
-  Said r zs = outcome r zs ≡ write-numbers h x.now
+  Said r zs = outcome r zs ≡ write_numbers h x.now
 
   -- the call: what it is passed, and that the caller has it
   abbrev to_inner : (Inner 𝓛 mem run).Ghost
@@ -173,4 +173,4 @@ typetext-write-spec 𝓤 𝓛 𝓜 𝓡 =
     entered 𝓤 𝓛.H (triple_of 𝓛 outer.signature (outer.spec 𝓛 𝓜.mem 𝓡.run))
     (tables 𝓤 𝓛.H 𝓜 𝓡 code.env).C (tables 𝓤 𝓛.H 𝓜 𝓡 code.env).Λ #outer code.function (code.unfolded 𝓤 𝓛.H 𝓜 𝓡)
     (meets 𝓛 𝓜.mem 𝓡.run (tables_of 𝓤 𝓛.H 𝓜 (tables 𝓤 𝓛.H 𝓜 𝓡 code.env))
-    (cited 𝓤 𝓛.H (Inner 𝓛 𝓜.mem 𝓡.run) 𝓜 𝓡 code.env #inner inner-def.routine code.calls-capi::write::write-numbers (inner-thm.met 𝓤 𝓛 𝓜 𝓡)))
+    (cited 𝓤 𝓛.H (Inner 𝓛 𝓜.mem 𝓡.run) 𝓜 𝓡 code.env #inner inner-def.routine code.calls-capi::write::write_numbers (inner-thm.met 𝓤 𝓛 𝓜 𝓡)))

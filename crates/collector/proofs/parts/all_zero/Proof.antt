@@ -24,4 +24,4 @@ all-zero-spec =
     (λ c. search rules)
     (λ c. search rules)
     (λ c. let l = c.before.before.loop in (search rules, L.looked c.before.before.before.args.part.now l.i l.zero (search rules) l.invariant.1))
-    (λ c. let l = c.before.loop in L.all-looked c.before.before.args.part.now l.i l.zero (search rules) l.invariant.1))
+    (λ c. let l = c.before.loop in L.all_looked c.before.before.args.part.now l.i l.zero (search rules) l.invariant.1))

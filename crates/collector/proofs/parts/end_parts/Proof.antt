@@ -21,4 +21,4 @@ end-parts-spec =
     (L.ordered 1024 a.bytes.now a.len.now a.over.now (sym s.in_order.ensures ∙ not-false _ c.before.before.before.if1.false)).full)
     (λ c. search rules)
     (λ c. let s = c.before.before.before.before.before.before.before in let a = s.before.before.before.before.args in
-    L.end-answered 8 1024 (of_parts a.bytes.now a.len.now a.over.now) (sym s.in_order.ensures ∙ not-false _ c.before.before.before.before.before.before.if1.false) c.before.before.before.before.read.ensures (L.emptied 1024 c.before.before.clear.ensures)))
+    L.end_answered 8 1024 (of_parts a.bytes.now a.len.now a.over.now) (sym s.in_order.ensures ∙ not-false _ c.before.before.before.before.before.before.if1.false) c.before.before.before.before.read.ensures (L.emptied 1024 c.before.before.clear.ensures)))

@@ -14,8 +14,8 @@ feed-parts-spec =
     (λ c κs. search rules)
     (λ c. search rules)
     (λ c. let a = c.before.before.before.before.before.before.args in
-    L.feed-refused 8 1024 (of_parts a.bytes.now a.len.now a.over.now) a.piece.now (sym c.before.in_order.ensures ∙ not-true _ c.if1.true))
+    L.feed_refused 8 1024 (of_parts a.bytes.now a.len.now a.over.now) a.piece.now (sym c.before.in_order.ensures ∙ not-true _ c.if1.true))
     (λ c κs. sym c.before.before.in_order.ensures ∙ not-false _ c.before.if1.false)
     (λ c. search rules)
     (λ c. let s = c.before.before.before.before.before in let a = s.before.before.before.before.before.args in
-    L.feed-taken 8 1024 (of_parts a.bytes.now a.len.now a.over.now) a.piece.now (sym s.in_order.ensures ∙ not-false _ c.before.before.before.before.if1.false) c.before.before.join.ensures))
+    L.feed_taken 8 1024 (of_parts a.bytes.now a.len.now a.over.now) a.piece.now (sym s.in_order.ensures ∙ not-false _ c.before.before.before.before.if1.false) c.before.before.join.ensures))

@@ -21,5 +21,5 @@ in-order-spec =
     (λ c. search rules)
     (λ c κs. search rules)
     (λ c. let a = c.before.before.before.before.before.before.args in
-    c.all-zero.ensures ∙ ap zeros (rest a.bytes.now a.len)
-    ∙ L.by-room 1024 a.bytes.now a.len a.over (omega arith) (search rules) c.before.before.if3.false))
+    c.all_zero.ensures ∙ ap zeros (rest a.bytes.now a.len)
+    ∙ L.by_room 1024 a.bytes.now a.len a.over (omega arith) (search rules) c.before.before.if3.false))

@@ -18,7 +18,7 @@ pub put_spec : {M : Type 1} → statement M
 put_spec =
     tie.close
     (tie.spec Inv μ
-    (λ c. L.put-start _ _ _)
+    (λ c. L.put_start _ _ _)
     (λ c. search rules)
     (λ c. search rules)
     (λ c. search rules)
@@ -26,4 +26,4 @@ put_spec =
     (λ c. search rules)
     (λ c. L.put_step c.before.before.loop.invariant (search rules) c.before.before.before.requires)
     (λ c. search rules)
-    (λ c. L.put-end c.before.loop.invariant (search rules)))
+    (λ c. L.put_end c.before.loop.invariant (search rules)))

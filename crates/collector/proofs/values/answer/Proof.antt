@@ -14,8 +14,8 @@ answer-spec =
     (λ c. search rules)
     (λ c. search rules)
     (λ c κs. let s = c.before.before.before.before in
-    L.taken-tells 8 1024 s.args.c (sym c.before.before.enum-told2.given.1 ∙ s.requires))
+    L.taken_tells 8 1024 s.args.c (sym c.before.before.enum-told2.given.1 ∙ s.requires))
     (λ c. let s = c.before.before.before in
-    (L.end_refused 8 1024 s.args.c (L.refused-tells 8 1024 s.args.c (sym c.before.enum_told.given.1 ∙ s.requires)) c.refuse.ensures).0)
+    (L.end_refused 8 1024 s.args.c (L.refused_tells 8 1024 s.args.c (sym c.before.enum_told.given.1 ∙ s.requires)) c.refuse.ensures).0)
     (λ c. let s = c.before.before.before.before.before in
-    L.end_reads 8 1024 s.args.c (L.taken-tells 8 1024 s.args.c (sym c.before.before.before.enum-told2.given.1 ∙ s.requires)) c.read.ensures))
+    L.end_reads 8 1024 s.args.c (L.taken_tells 8 1024 s.args.c (sym c.before.before.before.enum-told2.given.1 ∙ s.requires)) c.read.ensures))

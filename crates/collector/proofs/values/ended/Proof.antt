@@ -13,6 +13,6 @@ ended-spec =
     (λ c. search rules)
     (λ c κs. search rules)
     (λ c. let s = c.before.before in
-    L.end_kept 8 1024 s.args.c (L.refused-tells 8 1024 s.args.c (sym c.enum_told.given.1 ∙ s.requires)))
+    L.end_kept 8 1024 s.args.c (L.refused_tells 8 1024 s.args.c (sym c.enum_told.given.1 ∙ s.requires)))
     (λ c. let s = c.before.before.before in
-    c.fresh.ensures ∙ L.end_fresh 8 1024 s.args.c (L.taken-tells 8 1024 s.args.c (sym c.before.enum-told2.given.1 ∙ s.requires))))
+    c.fresh.ensures ∙ L.end_fresh 8 1024 s.args.c (L.taken_tells 8 1024 s.args.c (sym c.before.enum-told2.given.1 ∙ s.requires))))

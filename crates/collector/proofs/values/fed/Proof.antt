@@ -13,8 +13,8 @@ fed-spec =
     (λ c. search rules)
     (λ c. search rules)
     (λ c κs. let s = c.before.before.before.before.before in
-    L.taken-tells 8 1024 s.args.c (sym c.before.before.enum-told2.given.1 ∙ s.requires))
+    L.taken_tells 8 1024 s.args.c (sym c.before.before.enum-told2.given.1 ∙ s.requires))
     (λ c. let s = c.before.before.before in let a = s.args in
-    (L.feed-refused 8 1024 a.c a.piece.now (L.refused-tells 8 1024 a.c (sym c.enum_told.given.1 ∙ s.requires))).1)
+    (L.feed_refused 8 1024 a.c a.piece.now (L.refused_tells 8 1024 a.c (sym c.enum_told.given.1 ∙ s.requires))).1)
     (λ c. let s = c.before.before.before.before.before.before.before in let a = s.args in
-    (L.feed-taken 8 1024 a.c a.piece.now (L.taken-tells 8 1024 a.c (sym c.before.before.before.before.enum-told2.given.1 ∙ s.requires)) c.before.join.ensures).1))
+    (L.feed_taken 8 1024 a.c a.piece.now (L.taken_tells 8 1024 a.c (sym c.before.before.before.before.enum-told2.given.1 ∙ s.requires)) c.before.join.ensures).1))

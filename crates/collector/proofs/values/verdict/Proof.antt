@@ -11,5 +11,5 @@ verdict-spec =
     (tie.spec
     (λ c. search rules)
     (λ c κs. search rules)
-    (λ c. L.is-taken 8 1024 c.before.before.before.before.args.c (sym c.before.in_order.ensures ∙ c.if1.true))
-    (λ c. L.is-refused 8 1024 c.before.before.before.before.args.c (sym c.before.in_order.ensures ∙ c.if1.false)))
+    (λ c. L.is_taken 8 1024 c.before.before.before.before.args.c (sym c.before.in_order.ensures ∙ c.if1.true))
+    (λ c. L.is_refused 8 1024 c.before.before.before.before.args.c (sym c.before.in_order.ensures ∙ c.if1.false)))

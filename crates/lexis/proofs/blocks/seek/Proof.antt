@@ -28,7 +28,7 @@ again2 : tie.Need-loop2-preserved Inv μ Inv μ
 again2 c =
     let l = c.before.before.before.loop2 in
     let a = c.before.before.before.before.before.before.before.args in
-    l.invariant ∙ S.until-step (eqb a.b) a.text.now l.i (search rules) (ne_eqb _ _ c.if5.false)
+    l.invariant ∙ S.until_step (eqb a.b) a.text.now l.i (search rules) (ne_eqb _ _ c.if5.false)
 
 absent : tie.Need-returns Inv μ Inv μ
 absent c =

@@ -27,7 +27,7 @@ again2 : tie.Need-loop2-preserved Inv μ Inv μ
 again2 c =
     let l = c.before.before.before.loop2 in
     let a = c.before.before.before.before.before.before.before.args in
-    l.invariant ∙ S.until-step (T.outside a.lo a.hi) a.text.now l.i (search rules) c.if5.false
+    l.invariant ∙ S.until_step (T.outside a.lo a.hi) a.text.now l.i (search rules) c.if5.false
 
 absent : tie.Need-returns Inv μ Inv μ
 absent c =

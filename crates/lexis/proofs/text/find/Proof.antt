@@ -8,6 +8,6 @@ pub find_spec : {M : Type 1} → statement M
 find_spec =
     tie.close
     (tie.spec
-    (λ c. let a = c.before.before.before.args in L.nothing-sought a.what.now a.text.now c.if1.true)
+    (λ c. let a = c.before.before.before.args in L.nothing_sought a.what.now a.text.now c.if1.true)
     (λ c κs. search rules)
     (λ c. search rules))

@@ -53,7 +53,7 @@ ended c =
     let g = c.loop-test.false in
     let k = l.invariant.0 in
     let d = length-drop (l.i - a.k) a.text.now in
-    sym (l.invariant.1 ∙ ap (L.shifted (l.i - a.k)) (L.nowhere-short a.what.now (drop (l.i - a.k) a.text.now) (omega arith)))
+    sym (l.invariant.1 ∙ ap (L.shifted (l.i - a.k)) (L.nowhere_short a.what.now (drop (l.i - a.k) a.text.now) (omega arith)))
 
 pub find-from-spec : {M : Type 1} → statement M
 find-from-spec =

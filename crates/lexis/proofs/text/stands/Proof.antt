@@ -36,4 +36,4 @@ stands-spec =
       l.invariant.1 ∙ L.agrees a.what.now a.text.now l.j (a.at + l.j) (search rules) (search rules) c.if2.false
           ∙ ap (λ (n : ℕ). begins (drop (l.j + 1) a.what.now) (drop n a.text.now)) {x = a.at + l.j + 1} {y = a.at + (l.j + 1)} (omega arith),
     ))
-    (λ c. let l = c.before.loop in sym (l.invariant.1 ∙ L.all-passed _ _ l.j (search rules))))
+    (λ c. let l = c.before.loop in sym (l.invariant.1 ∙ L.all_passed _ _ l.j (search rules))))

@@ -11,7 +11,7 @@ use Rattle.lexis.proofs.text.trim_end.Statement.{statement}
 use Rattle.lexis.proofs.text.trim_end.Tie as tie
 
 abbrev Inv : tie.invariant-loop
-Inv text e₀ e = (e ≤ length text) × (T.less-trailing T.white text ≡ T.less-trailing T.white (take e text))
+Inv text e₀ e = (e ≤ length text) × (T.less_trailing T.white text ≡ T.less_trailing T.white (take e text))
 
 abbrev μ : tie.decreases-loop
 μ text e₀ e = e
@@ -26,7 +26,7 @@ trim-end-spec =
     (λ c κs. search rules)
     (λ c. sym (length-take-le _ _ (search rules)))
     (λ c. let l = c.before.before.before.before.before.loop in
-    sym (l.invariant.1 ∙ L.end-stop T.white _ l.e (search rules) (search rules) (sym c.before.before.white.ensures ∙ not-true _ c.before.if1.true)))
+    sym (l.invariant.1 ∙ L.end_stop T.white _ l.e (search rules) (search rules) (sym c.before.before.white.ensures ∙ not-true _ c.before.if1.true)))
     (λ c. search rules)
     (λ c. search rules)
     (λ c. let l = c.before.before.before.before.loop in

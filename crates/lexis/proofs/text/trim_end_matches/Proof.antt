@@ -2,7 +2,7 @@
 use lib.Seq.{length-take-le}
 use borrow.Author.Tests.{eq-eqb, ne_eqb}
 use Rattle.lexis.proofs.Trimming as L
-use Rattle.lexis.specs.Text.{less-trailing}
+use Rattle.lexis.specs.Text.{less_trailing}
 use lib.Dec.{eqb}
 use lib.ListN.{length, take}
 use Prim.Native.Nat.{◌≤◌}
@@ -12,7 +12,7 @@ use Rattle.lexis.proofs.text.trim_end_matches.Statement.{statement}
 use Rattle.lexis.proofs.text.trim_end_matches.Tie as tie
 
 abbrev Inv : tie.invariant-loop
-Inv text b e₀ e = (e ≤ length text) × (less-trailing (eqb b) text ≡ less-trailing (eqb b) (take e text))
+Inv text b e₀ e = (e ≤ length text) × (less_trailing (eqb b) text ≡ less_trailing (eqb b) (take e text))
 
 abbrev μ : tie.decreases-loop
 μ text b e₀ e = e
@@ -26,7 +26,7 @@ trim-end-matches-spec =
     (λ c. search rules)
     (λ c. sym (length-take-le _ _ (search rules)))
     (λ c. let l = c.before.before.before.before.loop in
-    sym (l.invariant.1 ∙ L.end-stop _ _ l.e (search rules) (search rules) (ne_eqb _ _ (λ e. c.before.if1.true (sym e)))))
+    sym (l.invariant.1 ∙ L.end_stop _ _ l.e (search rules) (search rules) (ne_eqb _ _ (λ e. c.before.if1.true (sym e)))))
     (λ c. search rules)
     (λ c. search rules)
     (λ c. let l = c.before.before.before.loop in

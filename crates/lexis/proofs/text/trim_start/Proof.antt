@@ -11,7 +11,7 @@ use Rattle.lexis.proofs.text.trim_start.Statement.{statement}
 use Rattle.lexis.proofs.text.trim_start.Tie as tie
 
 abbrev Inv : tie.invariant-loop
-Inv text i₀ i = (i ≤ length text) × (T.less-leading T.white text ≡ T.less-leading T.white (drop i text))
+Inv text i₀ i = (i ≤ length text) × (T.less_leading T.white text ≡ T.less_leading T.white (drop i text))
 
 abbrev μ : tie.decreases-loop
 μ text i₀ i = length text - i
@@ -28,12 +28,12 @@ trim-start-spec =
     (λ c. search rules)
     (λ c. let l = c.before.before.before.before.before.loop in
     rest _ l.i
-    ∙ sym (l.invariant.1 ∙ L.start-stop T.white _ l.i (search rules) (sym c.before.before.white.ensures ∙ not-true _ c.before.if1.true)))
+    ∙ sym (l.invariant.1 ∙ L.start_stop T.white _ l.i (search rules) (sym c.before.before.white.ensures ∙ not-true _ c.before.if1.true)))
     (λ c. search rules)
     (λ c. search rules)
     (λ c. let l = c.before.before.before.before.loop in
-    (search rules, l.invariant.1 ∙ L.start-step T.white _ l.i (search rules) (sym c.before.white.ensures ∙ not-false _ c.if1.false)))
+    (search rules, l.invariant.1 ∙ L.start_step T.white _ l.i (search rules) (sym c.before.white.ensures ∙ not-false _ c.if1.false)))
     (λ c. search rules)
     (λ c. search rules)
     (λ c. search rules)
-    (λ c. let l = c.before.before.loop in rest _ l.i ∙ sym (l.invariant.1 ∙ L.start-end T.white _ l.i (search rules))))
+    (λ c. let l = c.before.before.loop in rest _ l.i ∙ sym (l.invariant.1 ∙ L.start_end T.white _ l.i (search rules))))

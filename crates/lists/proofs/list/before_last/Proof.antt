@@ -28,17 +28,17 @@ before-last-spec =
     (λ c κs. search rules)
     (λ c. search rules)
     (λ c. let l = c.before.before.before.loop in let a = c.before.before.before.before.before.before.args in let s = a.s.now in let x = a.x in
-    let h = L.last-at 8 x dimension s l.at l.invariant.1 c.before.part-i64.ensures.0 (search rules) in
-    record { dims = L.dims-front 8 x dimension l.invariant.1 h; part = L.part-last 8 x dimension l.invariant.1 h; inside = l.invariant.0 })
+    let h = L.last_at 8 x dimension s l.at l.invariant.1 c.before.part-i64.ensures.0 (search rules) in
+    record { dims = L.dims_front 8 x dimension l.invariant.1 h; part = L.part_last 8 x dimension l.invariant.1 h; inside = l.invariant.0 })
     (λ c. search rules)
     (λ c. search rules)
     (λ c. search rules)
     (λ c. search rules)
     (λ c κs. let p = c.before.before in let l = p.before.before.loop in let a = p.before.before.before.before.before.args in let s = a.s.now in let x = a.x in
-    E.part-says-at 64 (eqb x) s l.at p.part-i64.ensures.0 p.part-i64.ensures.1)
+    E.part_says_at 64 (eqb x) s l.at p.part-i64.ensures.0 p.part-i64.ensures.1)
     (λ c κs. search rules)
     (λ c. search rules)
     (λ c. search rules)
     (λ c. search rules)
     (λ c. let l = c.before.before.before.before.before.before.loop in let a = c.before.before.before.before.before.before.before.before.before.args in let s = a.s.now in let x = a.x in
-    (search rules, L.step-at 8 x dimension s l.at l.invariant.1 c.before.before.before.before.part-i64.ensures.0 c.before.dim-of.ensures c.push64.ensures (search rules))))
+    (search rules, L.step_at 8 x dimension s l.at l.invariant.1 c.before.before.before.before.part-i64.ensures.0 c.before.dim-of.ensures c.push64.ensures (search rules))))

@@ -9,7 +9,7 @@ use Rattle.lexis.proofs.Lists.{rest}
 use Rattle.lexis.proofs.Splitting as S
 use Rattle.meaning.specs.Tile.{dimension}
 use Rattle.lists.specs.Laid.{list64}
-use Rattle.lists.proofs.Bounds.{part-within}
+use Rattle.lists.proofs.Bounds.{part_within}
 use Rattle.lists.proofs.Entries as E
 use Rattle.lists.proofs.Laying as L
 use Rattle.lists.proofs.list.parse_dims.Statement.{statement}
@@ -28,7 +28,7 @@ parse-dims-spec =
     (λ c κs. search rules)
     (λ c. L.begun 8 _ _ c.none64.ensures)
     (λ c κs. search rules)
-    (λ c. let p = c.before in sym (length-take-le _ _ (part-within p.before.before.before.before.args.x p.before.loop.t.now p.part-i64.ensures.0)))
+    (λ c. let p = c.before in sym (length-take-le _ _ (part_within p.before.before.before.before.args.x p.before.loop.t.now p.part-i64.ensures.0)))
     (λ c κs. let p = c.before in E.part_says 64 (eqb p.before.before.before.before.args.x) p.before.loop.t.now p.part-i64.ensures.0 p.part-i64.ensures.1)
     (λ c κs. search rules)
     (λ c. let p = c.before.before.before.before in let a = p.before.before.before.before.args in

@@ -6,13 +6,13 @@ use borrow.Author.Rules.{rules}
 use borrow.Author.Tests.{not-true, not-false}
 use lib.ListN.{length, drop}
 use mir.Syntax.{w64}
-use Rattle.meaning.specs.Normal.{clear, all-zero}
+use Rattle.meaning.specs.Normal.{clear, all_zero}
 use Rattle.meaning.proofs.Blanks as B
 use Rattle.meaning.proofs.normal.clear64.Statement.{statement}
 use Rattle.meaning.proofs.normal.clear64.Tie as tie
 
 abbrev invariant-loop : tie.invariant-loop
-invariant-loop used n l i₀ i = clear 8 used n l ≡ all-zero (drop i l)
+invariant-loop used n l i₀ i = clear 8 used n l ≡ all_zero (drop i l)
 
 abbrev decreases-loop : tie.decreases-loop
 decreases-loop used n l i₀ i = 8 - i
@@ -29,7 +29,7 @@ clear64-spec =
     (λ c κs. search rules)
     (λ c. let p = c.before.before.before.before in let l = p.before.before.before.args.t3 in let h : length l ≡ 8 = search rules in
     let k : p.loop.i < length l = omega arith in
-    sym (p.loop.invariant ∙ B.not-zero w64 l p.loop.i k (search rules) c.before.is-zero64.ensures (not-true _ c.if2.true)))
+    sym (p.loop.invariant ∙ B.not_zero w64 l p.loop.i k (search rules) c.before.is-zero64.ensures (not-true _ c.if2.true)))
     (λ c. search rules)
     (λ c. search rules)
     (λ c. let p = c.before.before.before.before in let l = p.before.before.before.args.t3 in let h : length l ≡ 8 = search rules in

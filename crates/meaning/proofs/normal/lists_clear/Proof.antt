@@ -1,12 +1,12 @@
--- The five answers joined are `lists-clear`: a path in each of its five parts.
+-- The five answers joined are `lists_clear`: a path in each of its five parts.
 use mathlib.Core.Bool.{◌&&◌}
 use borrow.Author.Rules.{rules}
-use Rattle.meaning.specs.Normal.{lists-clear}
+use Rattle.meaning.specs.Normal.{lists_clear}
 use Rattle.meaning.proofs.normal.lists_clear.Statement.{statement}
 use Rattle.meaning.proofs.normal.lists_clear.Tie as tie
 
 returns : tie.Need-returns
-unfolding lists-clear
+unfolding lists_clear
 returns c = λ i.
     c.before.before.before.before.clear64.ensures i
     && c.before.before.before.clear642.ensures i

@@ -10,5 +10,5 @@ first-high-spec =
     tie.close
     (tie.spec
     (λ c κs. search rules)
-    (λ c. sym (L.high-at c.before.before.before.args.text.now _ (c.before.seek-outside.ensures ∙ L.low-is c.before.before.before.args.text.now) (search rules)))
-    (λ c. sym (L.high-none c.before.before.before.args.text.now _ (c.before.seek-outside.ensures ∙ L.low-is c.before.before.before.args.text.now) (search rules))))
+    (λ c. sym (L.high_at c.before.before.before.args.text.now _ (c.before.seek-outside.ensures ∙ L.low_is c.before.before.before.args.text.now) (search rules)))
+    (λ c. sym (L.high_none c.before.before.before.args.text.now _ (c.before.seek-outside.ensures ∙ L.low_is c.before.before.before.args.text.now) (search rules))))

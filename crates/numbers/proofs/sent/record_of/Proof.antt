@@ -2,7 +2,7 @@ use mathlib.Core.Path.{◌≡◌}
 use mir.Syntax.{w32}
 use mir.Val.{to_z, of_z}
 use borrow.Author.Rules.{rules}
-use Rattle.numbers.proofs.Records.{record-value}
+use Rattle.numbers.proofs.Records.{record_value}
 use Rattle.numbers.proofs.sent.record_of.Statement.{statement}
 use Rattle.numbers.proofs.sent.record_of.Tie as tie
 
@@ -15,7 +15,7 @@ returns c =
     let f = a.before in
     let e = f.before in
     let k = e.before in
-    rw z (record-value n _ _ _ _ _ k.kind-of.ensures e.scalar-of.ensures p.padding-of.ensures f.flag-of.ensures a.flag-of2.ensures)
+    rw z (record_value n _ _ _ _ _ k.kind_of.ensures e.scalar_of.ensures p.padding_of.ensures f.flag_of.ensures a.flag-of2.ensures)
 
 pub record-of-spec : {M : Type 1} → statement M
 record-of-spec =

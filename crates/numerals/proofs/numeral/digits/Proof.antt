@@ -10,7 +10,7 @@ use Rattle.numerals.proofs.numeral.digits.Statement.{statement}
 use Rattle.numerals.proofs.numeral.digits.Tie as tie
 
 abbrev Inv : tie.invariant-loop
-Inv text most n₀ i₀ n i = (i ≤ length text) × (n ≤ most) × (P.under most (N.number text) ≡ P.under most (N.number-from n (drop i text)))
+Inv text most n₀ i₀ n i = (i ≤ length text) × (n ≤ most) × (P.under most (N.number text) ≡ P.under most (N.number_from n (drop i text)))
 
 abbrev μ : tie.decreases-loop
 μ text most n₀ i₀ n i = length text - i

@@ -16,18 +16,18 @@ parse-i32-spec =
     (λ c κs. search rules)
     (λ c. search rules)
     (λ c κs. let a = c.before.before.before.before.before.args in
-    omega (arith, L.in-range 2147483647 a.text.now c.before.before.before.sized.ensures c.before.n.given.1))
+    omega (arith, L.in_range 2147483647 a.text.now c.before.before.before.sized.ensures c.before.n.given.1))
     (λ c. search rules)
     (λ c κs. let a = c.before.before.before.before.before.args in
-    omega (arith, L.in-range 2147483647 a.text.now c.before.before.before.sized.ensures c.before.n2.given.1))
+    omega (arith, L.in_range 2147483647 a.text.now c.before.before.before.sized.ensures c.before.n2.given.1))
     (λ c. search rules)
     (λ c. let a = c.before.before.before.before.before.before.args in
     ap some (to_z-of_z w32 _ (record { sfits = c.plus32.type-inv }) ∙ c.plus32.ensures)
     ∙ ap L.worth (sym c.before.before.n.given.1 ∙ c.before.before.before.before.sized.ensures)
-    ∙ L.is-numeral 32 2147483647 refl refl a.text.now)
+    ∙ L.is_numeral 32 2147483647 refl refl a.text.now)
     (λ c. let a = c.before.before.before.before.before.before.args in
     ap some (to_z-of_z w32 _ (record { sfits = c.minus32.type-inv }) ∙ c.minus32.ensures)
     ∙ ap L.worth (sym c.before.before.n2.given.1 ∙ c.before.before.before.before.sized.ensures)
-    ∙ L.is-numeral 32 2147483647 refl refl a.text.now)
+    ∙ L.is_numeral 32 2147483647 refl refl a.text.now)
     (λ c. let a = c.before.before.before.before.args in
-    ap L.worth (sym c.enum_told.given.1 ∙ c.before.before.sized.ensures) ∙ L.is-numeral 32 2147483647 refl refl a.text.now))
+    ap L.worth (sym c.enum_told.given.1 ∙ c.before.before.sized.ensures) ∙ L.is_numeral 32 2147483647 refl refl a.text.now))

@@ -16,18 +16,18 @@ parse-i64-spec =
     (λ c κs. search rules)
     (λ c. search rules)
     (λ c κs. let a = c.before.before.before.before.before.args in
-    omega (arith, L.in-range 9223372036854775807 a.text.now c.before.before.before.sized.ensures c.before.n.given.1))
+    omega (arith, L.in_range 9223372036854775807 a.text.now c.before.before.before.sized.ensures c.before.n.given.1))
     (λ c. search rules)
     (λ c κs. let a = c.before.before.before.before.before.args in
-    omega (arith, L.in-range 9223372036854775807 a.text.now c.before.before.before.sized.ensures c.before.n2.given.1))
+    omega (arith, L.in_range 9223372036854775807 a.text.now c.before.before.before.sized.ensures c.before.n2.given.1))
     (λ c. search rules)
     (λ c. let a = c.before.before.before.before.before.before.args in
     ap some (to_z-of_z w64 _ (record { sfits = c.plus64.type-inv }) ∙ c.plus64.ensures)
     ∙ ap L.worth (sym c.before.before.n.given.1 ∙ c.before.before.before.before.sized.ensures)
-    ∙ L.is-numeral 64 9223372036854775807 refl refl a.text.now)
+    ∙ L.is_numeral 64 9223372036854775807 refl refl a.text.now)
     (λ c. let a = c.before.before.before.before.before.before.args in
     ap some (to_z-of_z w64 _ (record { sfits = c.minus64.type-inv }) ∙ c.minus64.ensures)
     ∙ ap L.worth (sym c.before.before.n2.given.1 ∙ c.before.before.before.before.sized.ensures)
-    ∙ L.is-numeral 64 9223372036854775807 refl refl a.text.now)
+    ∙ L.is_numeral 64 9223372036854775807 refl refl a.text.now)
     (λ c. let a = c.before.before.before.before.args in
-    ap L.worth (sym c.enum_told.given.1 ∙ c.before.before.sized.ensures) ∙ L.is-numeral 64 9223372036854775807 refl refl a.text.now))
+    ap L.worth (sym c.enum_told.given.1 ∙ c.before.before.sized.ensures) ∙ L.is_numeral 64 9223372036854775807 refl refl a.text.now))

@@ -15,11 +15,11 @@ leading-spec =
     (λ c. search rules)
     (λ c κs. search rules)
     (λ c. let a = c.before.before.before.before.before.args in
-    L.none-white a.text.now (search rules) (sym c.before.white.ensures ∙ not-true _ c.if2.true))
+    L.none_white a.text.now (search rules) (sym c.before.white.ensures ∙ not-true _ c.if2.true))
     (λ c. search rules)
     (λ c κs. search rules)
     (λ c. let p = c.before.before.before in let a = p.before.before.before.before.before.args in
-    L.one-white a.text.now (search rules) (sym p.before.white.ensures ∙ not-false _ p.if2.false) (sym c.before.white2.ensures ∙ not-true _ c.if3.true))
+    L.one_white a.text.now (search rules) (sym p.before.white.ensures ∙ not-false _ p.if2.false) (sym c.before.white2.ensures ∙ not-true _ c.if3.true))
     (λ c κs. search rules)
     (λ c. let p = c.before.before.before.before in let a = p.before.before.before.before.before.args in
-    c.seek-ink2.ensures ∙ L.two-white a.text.now (search rules) (sym p.before.white.ensures ∙ not-false _ p.if2.false) (sym c.before.before.white2.ensures ∙ not-false _ c.before.if3.false)))
+    c.seek-ink2.ensures ∙ L.two_white a.text.now (search rules) (sym p.before.white.ensures ∙ not-false _ p.if2.false) (sym c.before.before.white2.ensures ∙ not-false _ c.before.if3.false)))

@@ -47,11 +47,11 @@ run_spec =
     (λ c κs. search rules)
     (λ c κs. search rules)
     (λ c. let o = c.before.before in let l = o.before.before.before.before.before.before.before in
-    L.at-odd (L.quiet _ l.before.before.before.before.requires) l.loop2.invariant.0 (search rules) (ne_eqb _ _ (λ e. o.before.if8.true (sym e))) (sym o.odd.ensures ∙ c.before.if9.true)
+    L.at_odd (L.quiet _ l.before.before.before.before.requires) l.loop2.invariant.0 (search rules) (ne_eqb _ _ (λ e. o.before.if8.true (sym e))) (sym o.odd.ensures ∙ c.before.if9.true)
     o.before.before.before.before.before.if5.false c.seek.ensures)
     (λ c. tt)
     (λ c. let l = c.before.before.before.before.before.before in
     let w = L.at_next (L.quiet _ l.before.before.before.before.requires) l.loop2.invariant.0 (eq-eqb _ _ (sym c.if8.false)) c.before.before.before.before.if5.false in
     (w.0, w.1, search rules))
     (λ c. let l = c.before.before.before.before in
-    let w = L.at-end (L.quiet _ l.before.before.before.before.requires) l.loop2.invariant.0 (search rules) c.before.before.if5.false in (w.0, w.1, search rules)))
+    let w = L.at_end (L.quiet _ l.before.before.before.before.requires) l.loop2.invariant.0 (search rules) c.before.before.if5.false in (w.0, w.1, search rules)))

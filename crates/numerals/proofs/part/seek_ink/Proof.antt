@@ -27,7 +27,7 @@ again2 : tie.Need-loop2-preserved Inv μ Inv μ
 again2 c =
     let l = c.before.before.before.before.loop2 in
     let a = c.before.before.before.before.before.before.before.before.args in
-    l.invariant ∙ S.until-step ink a.text.now l.i (search rules) (ap not (sym c.before.white.ensures) ∙ c.if3.false)
+    l.invariant ∙ S.until_step ink a.text.now l.i (search rules) (ap not (sym c.before.white.ensures) ∙ c.if3.false)
 
 ended : tie.Need-returns Inv μ Inv μ
 ended c =

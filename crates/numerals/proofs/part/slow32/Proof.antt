@@ -10,8 +10,8 @@ slow32-spec =
     tie.close
     (tie.spec
     (λ c κs. search rules)
-    (λ c. let p = c.before in L.until-part _ p.before.before.args.text.now p.until.ensures)
+    (λ c. let p = c.before in L.until_part _ p.before.before.args.text.now p.until.ensures)
     (λ c κs. search rules)
     (λ c κs. search rules)
     (λ c. let p = c.before.before.before in
-    (p.until.ensures, c.parse-i32.ensures ∙ L.sought-part _ p.before.before.args.text.now p.until.ensures 32 c.before.trim.ensures)))
+    (p.until.ensures, c.parse-i32.ensures ∙ L.sought_part _ p.before.before.args.text.now p.until.ensures 32 c.before.trim.ensures)))

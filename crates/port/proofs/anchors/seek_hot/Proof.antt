@@ -26,7 +26,7 @@ again2 : tie.Need-loop2-preserved Inv μ Inv μ
 again2 c =
     let l = c.before.before.before.before.loop2 in
     let a = c.before.before.before.before.before.before.before.before.args in
-    l.invariant ∙ S.until-step hot a.text.now l.i (search rules) (sym c.before.hot.ensures ∙ c.if3.false)
+    l.invariant ∙ S.until_step hot a.text.now l.i (search rules) (sym c.before.hot.ensures ∙ c.if3.false)
 
 ended : tie.Need-returns Inv μ Inv μ
 ended c =

@@ -9,8 +9,8 @@ pub strip-prefix-suffix-spec : {M : Type 1} → statement M
 strip-prefix-suffix-spec =
     tie.close
     (tie.spec
-    (λ c. omega (arith, L.bracketed-within c.args.prefix.now c.args.s.now c.args.n c.requires))
-    (λ c. omega (arith, L.bracketed-within c.args.prefix.now c.args.s.now c.args.n c.requires))
+    (λ c. omega (arith, L.bracketed_within c.args.prefix.now c.args.s.now c.args.n c.requires))
+    (λ c. omega (arith, L.bracketed_within c.args.prefix.now c.args.s.now c.args.n c.requires))
     (λ c. search rules)
-    (λ c. let a = c.before.before.args in L.content-fits a.prefix.now a.s.now a.n c.before.before.requires)
-    (λ c. let a = c.before.before.args in L.content-is a.prefix.now a.s.now a.n c.before.before.requires))
+    (λ c. let a = c.before.before.args in L.content_fits a.prefix.now a.s.now a.n c.before.before.requires)
+    (λ c. let a = c.before.before.args in L.content_is a.prefix.now a.s.now a.n c.before.before.requires))

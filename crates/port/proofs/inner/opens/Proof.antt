@@ -14,19 +14,19 @@ opens-spec =
     tie.close
     (tie.spec
     (λ c. search rules)
-    (λ c. let p = c.before.before in let a = p.args in (L.opened-named p.requires.0 (drop a.behind a.inner.now) c.if1.true, L.fits p.requires.0.named c.if1.true))
+    (λ c. let p = c.before.before in let a = p.args in (L.opened_named p.requires.0 (drop a.behind a.inner.now) c.if1.true, L.fits p.requires.0.named c.if1.true))
     (λ c. search rules)
     (λ c. let p = c.before.before.before in let a = p.args in
-    (L.opened-prefixed p.requires.0 (drop a.behind a.inner.now) (search rules) c.if2.true, L.fits p.requires.0.prefixed c.if2.true))
+    (L.opened_prefixed p.requires.0 (drop a.behind a.inner.now) (search rules) c.if2.true, L.fits p.requires.0.prefixed c.if2.true))
     (λ c κs. search rules)
     (λ c. search rules)
-    (λ c. let p = c.before.before.before.before.before.before.before in let a = p.args in omega (arith, L.fits-behind (bytes "tensor_view<") a.inner.now a.behind _ p.requires.3 (sym c.before.before.before.plain-from.ensures ∙ ap spot c.before.n.given.1)))
-    (λ c. let p = c.before.before.before.before.before.before.before in let a = p.args in omega (arith, L.fits-behind (bytes "tensor_view<") a.inner.now a.behind _ p.requires.3 (sym c.before.before.before.plain-from.ensures ∙ ap spot c.before.n.given.1)))
+    (λ c. let p = c.before.before.before.before.before.before.before in let a = p.args in omega (arith, L.fits_behind (bytes "tensor_view<") a.inner.now a.behind _ p.requires.3 (sym c.before.before.before.plain-from.ensures ∙ ap spot c.before.n.given.1)))
+    (λ c. let p = c.before.before.before.before.before.before.before in let a = p.args in omega (arith, L.fits_behind (bytes "tensor_view<") a.inner.now a.behind _ p.requires.3 (sym c.before.before.before.plain-from.ensures ∙ ap spot c.before.n.given.1)))
     (λ c. search rules)
     (λ c. let p = c.before.before.before.before.before.before.before in let a = p.args in (
-      L.opened-plain p.requires.0 (drop a.behind a.inner.now) (search rules) (search rules) _ (sym c.before.before.before.plain-from.ensures ∙ ap spot c.before.n.given.1)
+      L.opened_plain p.requires.0 (drop a.behind a.inner.now) (search rules) (search rules) _ (sym c.before.before.before.plain-from.ensures ∙ ap spot c.before.n.given.1)
           ∙ ap some (L.both a.inner.now a.behind _),
-      L.fits-behind (bytes "tensor_view<") a.inner.now a.behind _ p.requires.3 (sym c.before.before.before.plain-from.ensures ∙ ap spot c.before.n.given.1),
+      L.fits_behind (bytes "tensor_view<") a.inner.now a.behind _ p.requires.3 (sym c.before.before.before.plain-from.ensures ∙ ap spot c.before.n.given.1),
     ))
     (λ c. let p = c.before.before.before.before.before.before in let a = p.args in
-    (L.opened-none p.requires.0 (drop a.behind a.inner.now) (search rules) (search rules) (sym c.before.before.plain-from.ensures ∙ ap spot c.enum_told.given.1), tt)))
+    (L.opened_none p.requires.0 (drop a.behind a.inner.now) (search rules) (search rules) (sym c.before.before.plain-from.ensures ∙ ap spot c.enum_told.given.1), tt)))

@@ -13,9 +13,9 @@ plain-from-spec =
     (tie.spec
     (λ c. search rules)
     (λ c. search rules)
-    (λ c. let q = c.before.before.requires in sym (L.none-behind q.0 q.1 _ q.2 (search rules)))
+    (λ c. let q = c.before.before.requires in sym (L.none_behind q.0 q.1 _ q.2 (search rules)))
     (λ c. search rules)
-    (λ c. let q = c.before.before.before.requires in sym (L.first-behind q.0 q.1 _ q.2 (search rules) (search rules)))
+    (λ c. let q = c.before.before.before.requires in sym (L.first_behind q.0 q.1 _ q.2 (search rules) (search rules)))
     (λ c. search rules)
     (λ c. search rules)
     (λ c. search rules)

@@ -11,7 +11,7 @@ sight-spec =
     (λ c. let q = c.before.before.before.requires in L.already q.1 q.2 (search rules))
     (λ c. search rules)
     (λ c. search rules)
-    (λ c. let q = c.before.before.before.before.requires in L.too-early q.1 q.2 (search rules))
+    (λ c. let q = c.before.before.before.before.requires in L.too_early q.1 q.2 (search rules))
     (λ c. search rules)
     (λ c. search rules)
     (λ c. search rules)

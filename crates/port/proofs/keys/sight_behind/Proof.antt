@@ -18,5 +18,5 @@ sight-behind-spec =
     (λ c. search rules)
     (λ c. search rules)
     (λ c κs. let q = c.before.before.before.before.before.before.requires in
-    (L.handed-in q.1 q.0 (search rules), search rules, L.handed q.1 (search rules)))
+    (L.handed_in q.1 q.0 (search rules), search rules, L.handed q.1 (search rules)))
     (λ c. L.opens c.before.before.before.before.before.before.before.requires.1 (search rules) (search rules) c.sight.ensures))

@@ -14,6 +14,6 @@ listless-spec =
     tie.close
     (tie.spec
     (λ c κs. search rules)
-    (λ c κs. let n = L.sound-list unused c.none64.ensures in (n, n))
+    (λ c κs. let n = L.sound_list unused c.none64.ensures in (n, n))
     (λ c. let n = c.before.none64.ensures in let a = c.before.before.args in
-    c.simple.ensures ∙ ap (λ (x : Carried). answered a.marked (some x)) (B.plain-is a.kind a.element n n)))
+    c.simple.ensures ∙ ap (λ (x : Carried). answered a.marked (some x)) (B.plain_is a.kind a.element n n)))

@@ -16,7 +16,7 @@ simple-spec =
     tie.close
     (tie.spec
     (λ c κs. search rules)
-    (λ c κs. let n = L.sound-list unused c.none32.ensures in let p = c.before in
-    record { shape = p.requires.0; strides = p.requires.1; map = n; traversal = n; sparse = L.sound-one unused c.none32.ensures (omega arith) })
+    (λ c κs. let n = L.sound_list unused c.none32.ensures in let p = c.before in
+    record { shape = p.requires.0; strides = p.requires.1; map = n; traversal = n; sparse = L.sound_one unused c.none32.ensures (omega arith) })
     (λ c. let a = c.before.before.args in
     c.made.ensures ∙ ap (λ (l : Laid). answered a.marked (some (built a.kind a.element a.pointer (list64 a.shape) (list64 a.strides) l l l l Absent))) c.before.none32.ensures))

@@ -25,4 +25,4 @@ copy_spec =
     (λ c. L.copy_step c.before.before.loop.invariant (search rules) c.before.before.before.requires)
     (λ c. search rules)
     (λ c. search rules)
-    (λ c. L.copy-end c.before.loop.invariant (search rules)))
+    (λ c. L.copy_end c.before.loop.invariant (search rules)))

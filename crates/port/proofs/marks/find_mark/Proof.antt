@@ -9,7 +9,7 @@ use borrow.Author.Rules.{rules}
 use Rattle.lexis.specs.Text.{cut, place}
 use Rattle.lexis.proofs.Seeking.{shifted, unshifted}
 use Rattle.meaning.specs.Ordinary.{mark}
-use Rattle.port.proofs.Removal.{sought, mark-is}
+use Rattle.port.proofs.Removal.{sought, mark_is}
 use Rattle.port.proofs.Spotting as L
 use Rattle.port.proofs.marks.find_mark.Statement.{statement}
 use Rattle.port.proofs.marks.find_mark.Tie as tie
@@ -24,10 +24,10 @@ pub find-mark-spec : {M : Type 1} → statement M
 find-mark-spec =
     tie.close
     (tie.spec Inv μ
-    (λ c. let s = c.before.args.text.now in (search rules, ap (λ m. place (cut m s)) mark-is ∙ unshifted (place (cut sought s))))
+    (λ c. let s = c.before.args.text.now in (search rules, ap (λ m. place (cut m s)) mark_is ∙ unshifted (place (cut sought s))))
     (λ c κs. search rules)
     (λ c. let l = c.before.before.loop in
-    sym (l.invariant.1 ∙ L.no-hash _ l.from l.invariant.0 c.before.seek.ensures (search rules)))
+    sym (l.invariant.1 ∙ L.no_hash _ l.from l.invariant.0 c.before.seek.ensures (search rules)))
     (λ c κs. search rules)
     (λ c. let l = c.before.before.before.before.loop in
     sym (l.invariant.1 ∙ L.no_end _ l.from l.invariant.0 c.before.before.before.seek.ensures c.before.seek2.ensures (search rules)))
@@ -40,7 +40,7 @@ find-mark-spec =
     (λ c κs. search rules)
     (λ c. search rules)
     (λ c. let p = c.before.before.before.before.before.before in let l = p.before.before.before.loop in
-    sym (l.invariant.1 ∙ L.ends-here _ l.from l.invariant.0 p.before.before.seek.ensures p.seek2.ensures (search rules) (search rules) (sym c.if4.true ∙ c.before.begins.ensures)))
+    sym (l.invariant.1 ∙ L.ends_here _ l.from l.invariant.0 p.before.before.seek.ensures p.seek2.ensures (search rules) (search rules) (sym c.if4.true ∙ c.before.begins.ensures)))
     (λ c. search rules)
     (λ c. search rules)
     (λ c. let p = c.before.before in let l = p.before.before.before.loop in (

@@ -12,4 +12,4 @@ to-read-spec =
     (tie.spec
     (λ c. let p = c.before.before in sym (length-take-le _ _ (p.requires.fits c.before.if1.true)))
     (λ c. let p = c.before.before in L.to_room p.requires c.before.if1.true)
-    (λ c. let p = c.before in L.to-text p.requires (search rules)))
+    (λ c. let p = c.before in L.to_text p.requires (search rules)))

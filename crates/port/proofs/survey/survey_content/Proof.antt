@@ -9,10 +9,10 @@ survey-content-spec =
     tie.close
     (tie.spec
     (λ c κs. search rules)
-    (λ c. L.by-match c.before.scan.ensures (search rules))
-    (λ c. L.by-nothing c.before.before.scan.ensures (search rules) c.if2.true)
+    (λ c. L.by_match c.before.scan.ensures (search rules))
+    (λ c. L.by_nothing c.before.before.scan.ensures (search rules) c.if2.true)
     (λ c. search rules)
     (λ c. search rules)
     (λ c. search rules)
-    (λ c. L.by-final c.before.before.before.before.before.scan.ensures (search rules) (search rules) c.before.if3.true)
-    (λ c. L.by-other c.before.before.before.before.scan.ensures (search rules) (search rules) c.if3.false))
+    (λ c. L.by_final c.before.before.before.before.before.scan.ensures (search rules) (search rules) c.before.if3.true)
+    (λ c. L.by_other c.before.before.before.before.scan.ensures (search rules) (search rules) c.if3.false))

@@ -16,4 +16,4 @@ around-spec =
     (λ c. search rules)
     (λ c. search rules)
     (λ c κs. search rules)
-    (λ c. L.strides-rest _ c.before.before.before.before.args.inner.now _ c.with-strides.ensures))
+    (λ c. L.strides_rest _ c.before.before.before.before.args.inner.now _ c.with-strides.ensures))

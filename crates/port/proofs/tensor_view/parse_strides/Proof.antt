@@ -12,4 +12,4 @@ parse-strides-spec =
     (λ c κs. search rules)
     (λ c κs. search rules)
     (λ c. let t = c.before in let a = t.before.before.before in
-    L.strides-read a.args.s.now _ _ t.before.trim-start-matches.ensures t.trim-end-matches.ensures c.parse-dims.ensures))
+    L.strides_read a.args.s.now _ _ t.before.trim-start-matches.ensures t.trim-end-matches.ensures c.parse-dims.ensures))

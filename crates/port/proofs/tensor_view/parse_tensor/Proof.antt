@@ -11,10 +11,10 @@ parse-tensor-spec =
     (tie.spec
     (λ c κs. let p = c.before.before in P.fits p.requires.spaced c.if1.true)
     (λ c. let p = c.before.before.before in let s = p.args.inner.now in
-    L.strides-first s (P.placed p.requires.spaced c.before.if1.true) c.around.ensures)
+    L.strides_first s (P.placed p.requires.spaced c.before.if1.true) c.around.ensures)
     (λ c κs. let p = c.before.before.before in P.fits p.requires.bare c.if2.true)
     (λ c. let p = c.before.before.before.before in let s = p.args.inner.now in
-    L.strides-second s (P.unplaced p.requires.spaced (search rules)) (P.placed p.requires.bare c.before.if2.true) c.around2.ensures)
+    L.strides_second s (P.unplaced p.requires.spaced (search rules)) (P.placed p.requires.bare c.before.if2.true) c.around2.ensures)
     (λ c κs. search rules)
     (λ c. let p = c.before.before.before.before in let s = p.args.inner.now in
-    L.strides-nowhere s (P.unplaced p.requires.spaced (search rules)) (P.unplaced p.requires.bare (search rules)) c.without-strides.ensures))
+    L.strides_nowhere s (P.unplaced p.requires.spaced (search rules)) (P.unplaced p.requires.bare (search rules)) c.without-strides.ensures))

@@ -14,7 +14,7 @@ parse-tensor-view-spec =
     (λ c κs. search rules)
     (λ c κs. search rules)
     (λ c. let p = c.before.before.before in let a = p.before.before.args in
-    c.refuse.ensures ∙ ap (answered a.marked) (L.view-none a.inner.now _ p.parse-tensor.ensures (not-true _ c.before.if1.true)))
-    (λ c κs. let i = c.before.before in let p = i.before.before in L.view-sound p.before.before.args.inner.now _ p.parse-tensor.ensures (not-false _ i.if1.false))
+    c.refuse.ensures ∙ ap (answered a.marked) (L.view_none a.inner.now _ p.parse-tensor.ensures (not-true _ c.before.if1.true)))
+    (λ c κs. let i = c.before.before in let p = i.before.before in L.view_sound p.before.before.args.inner.now _ p.parse-tensor.ensures (not-false _ i.if1.false))
     (λ c. let i = c.before.before.before in let p = i.before.before in let a = p.before.before.args in
-    c.simple.ensures ∙ ap (answered a.marked) (L.view-some a.inner.now _ p.parse-tensor.ensures (not-false _ i.if1.false))))
+    c.simple.ensures ∙ ap (answered a.marked) (L.view_some a.inner.now _ p.parse-tensor.ensures (not-false _ i.if1.false))))

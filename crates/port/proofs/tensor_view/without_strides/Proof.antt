@@ -19,9 +19,9 @@ without-strides-spec =
     (λ c. search rules)
     (λ c κs. search rules)
     (λ c. let p = c.before.before.before.before in let f = p.before.before.before in let a = f.before.before in
-    L.tensor-read a.args.s.now none
+    L.tensor_read a.args.s.now none
     (L.named a.args.s.now f.parse-front.ensures p.parse-scalar.ensures c.before.before.element.given.1)
     f.parse-front.ensures.dims (L.none_read a.args.s.now f.parse-front.ensures c.dynamic.ensures))
     (λ c. let p = c.before.before.before in let f = p.before.before.before in let a = f.before.before in
-    L.tensor-none a.args.s.now none
+    L.tensor_none a.args.s.now none
     (L.named a.args.s.now f.parse-front.ensures p.parse-scalar.ensures c.before.enum_told.given.1) c.no-tensor.ensures))

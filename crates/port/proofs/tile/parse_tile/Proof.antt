@@ -20,7 +20,7 @@ parse-tile-spec =
     (λ c. search rules)
     (λ c κs. search rules)
     (λ c. let i = c.before.before.before in let p = i.before.before in
-    c.pointer-tile.ensures ∙ ap (answered p.args.marked) (L.tile-at p.args.inner.now _ (P.placed p.requires.ptr i.if1.true)))
+    c.pointer-tile.ensures ∙ ap (answered p.args.marked) (L.tile_at p.args.inner.now _ (P.placed p.requires.ptr i.if1.true)))
     (λ c κs. search rules)
     (λ c. let p = c.before.before.before in
-    c.scalar-tile.ensures ∙ ap (answered p.args.marked) (L.tile-nowhere p.args.inner.now (P.unplaced p.requires.ptr (search rules)))))
+    c.scalar-tile.ensures ∙ ap (answered p.args.marked) (L.tile_nowhere p.args.inner.now (P.unplaced p.requires.ptr (search rules)))))

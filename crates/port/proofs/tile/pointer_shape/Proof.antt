@@ -13,9 +13,9 @@ pointer-shape-spec =
     (λ c κs. search rules)
     (λ c κs. search rules)
     (λ c. let r = c.before.before in let t = r.before.before in
-    L.shape-none t.before.before.args.before.now _ _ t.trim.ensures r.trim-end-repeats.ensures c.before.if1.true c.none64.ensures)
+    L.shape_none t.before.before.args.before.now _ _ t.trim.ensures r.trim-end-repeats.ensures c.before.if1.true c.none64.ensures)
     (λ c κs. search rules)
     (λ c κs. search rules)
     (λ c. let i = c.before.before in let r = i.before in let t = r.before.before in let a = t.before.before in
-    L.shape-some a.args.before.now _ _ t.trim.ensures r.trim-end-repeats.ensures
+    L.shape_some a.args.before.now _ _ t.trim.ensures r.trim-end-repeats.ensures
     i.if1.false c.before.trim-end-matches.ensures c.parse-dims.ensures))

@@ -26,17 +26,17 @@ pointer-tile-spec =
     (λ c. search rules)
     (λ c κs. search rules)
     (λ c κs. search rules)
-    (λ c κs. (L.sized-sound c.before.before.before.before.before.before.before.before.before.before.before.before.before.before.args.before.now c.before.pointer-shape.ensures, M.sound-list unused c.none64.ensures))
+    (λ c κs. (L.sized_sound c.before.before.before.before.before.before.before.before.before.before.before.before.before.before.args.before.now c.before.pointer-shape.ensures, M.sound_list unused c.none64.ensures))
     (λ c. search rules)
     (λ c κs. search rules)
     (λ c. search rules)
     (λ c κs. search rules)
     (λ c. let e = c.before.before.before.before in let d = e.before.before in let n = d.before.before.before in let p = n.before.before in
     let a = p.before.before.before.before.args in let t = a.after.now in
-    c.simple.ensures ∙ ap (answered a.marked) (L.tile-some true _ refl (L.pointee-is t p.find.ensures n.n.given.1 d.parse-scalar.ensures e.e.given.1)
+    c.simple.ensures ∙ ap (answered a.marked) (L.tile_some true _ refl (L.pointee_is t p.find.ensures n.n.given.1 d.parse-scalar.ensures e.e.given.1)
     c.before.before.pointer-shape.ensures c.before.none64.ensures))
     (λ c. let d = c.before.before.before in let n = d.before.before.before in let p = n.before.before in
     let a = p.before.before.before.before.args in let t = a.after.now in
-    c.refuse.ensures ∙ ap (answered a.marked) (L.tile-none true _ refl (L.pointee-is t p.find.ensures n.n.given.1 d.parse-scalar.ensures c.before.enum_told.given.1)))
+    c.refuse.ensures ∙ ap (answered a.marked) (L.tile_none true _ refl (L.pointee_is t p.find.ensures n.n.given.1 d.parse-scalar.ensures c.before.enum_told.given.1)))
     (λ c. let p = c.before.before.before in let a = p.before.before.before.before.args in
-    c.refuse2.ensures ∙ ap (answered a.marked) (L.tile-none true _ refl (L.pointee-none a.after.now p.find.ensures c.before.enum-told2.given.1))))
+    c.refuse2.ensures ∙ ap (answered a.marked) (L.tile_none true _ refl (L.pointee_none a.after.now p.find.ensures c.before.enum-told2.given.1))))

@@ -23,12 +23,12 @@ scalar-tile-spec =
     (λ c. search rules)
     (λ c κs. search rules)
     (λ c κs. let f = c.before.before.before.before.before.before.before in
-    (M.sound-list (dimensions (C.sizes f.before.before.args.inner.now)) f.parse-front.ensures.dims, M.sound-list unused c.none64.ensures))
+    (M.sound_list (dimensions (C.sizes f.before.before.args.inner.now)) f.parse-front.ensures.dims, M.sound_list unused c.none64.ensures))
     (λ c. search rules)
     (λ c κs. search rules)
     (λ c. let e = c.before.before.before in let p = e.before.before in let f = p.before.before.before in let a = f.before.before.args in
     let s = a.inner.now in
-    c.simple.ensures ∙ ap (answered a.marked) (L.tile-some false (dimensions (C.sizes s)) refl (C.named s f.parse-front.ensures p.parse-scalar.ensures e.e.given.1)
+    c.simple.ensures ∙ ap (answered a.marked) (L.tile_some false (dimensions (C.sizes s)) refl (C.named s f.parse-front.ensures p.parse-scalar.ensures e.e.given.1)
     f.parse-front.ensures.dims c.before.none64.ensures))
     (λ c. let p = c.before.before.before in let f = p.before.before.before in let a = f.before.before.args in let s = a.inner.now in
-    c.refuse.ensures ∙ ap (answered a.marked) (L.tile-none false (dimensions (C.sizes s)) refl (C.named s f.parse-front.ensures p.parse-scalar.ensures c.before.enum_told.given.1))))
+    c.refuse.ensures ∙ ap (answered a.marked) (L.tile_none false (dimensions (C.sizes s)) refl (C.named s f.parse-front.ensures p.parse-scalar.ensures c.before.enum_told.given.1))))

@@ -16,6 +16,6 @@ parse-bare-spec =
     (λ c. search rules)
     (λ c κs. search rules)
     (λ c. let p = c.before.before.before.before in
-    L.bare-named p.before.before.args.marked p.before.before.args.s.now (sym p.parse-scalar.ensures ∙ ap said c.before.before.e.given.1) c.listless.ensures)
+    L.bare_named p.before.before.args.marked p.before.before.args.s.now (sym p.parse-scalar.ensures ∙ ap said c.before.before.e.given.1) c.listless.ensures)
     (λ c. let p = c.before.before.before in
-    L.bare-named p.before.before.args.marked p.before.before.args.s.now (sym p.parse-scalar.ensures ∙ ap said c.before.enum_told.given.1) c.refuse.ensures))
+    L.bare_named p.before.before.args.marked p.before.before.args.s.now (sym p.parse-scalar.ensures ∙ ap said c.before.enum_told.given.1) c.refuse.ensures))

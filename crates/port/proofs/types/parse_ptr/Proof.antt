@@ -16,6 +16,6 @@ parse-ptr-spec =
     (λ c. search rules)
     (λ c κs. search rules)
     (λ c. let p = c.before.before.before.before in
-    L.pointer-named p.before.before.args.marked p.before.before.args.inner.now (sym p.parse-scalar.ensures ∙ ap said c.before.before.e.given.1) c.listless.ensures)
+    L.pointer_named p.before.before.args.marked p.before.before.args.inner.now (sym p.parse-scalar.ensures ∙ ap said c.before.before.e.given.1) c.listless.ensures)
     (λ c. let p = c.before.before.before in
-    L.pointer-named p.before.before.args.marked p.before.before.args.inner.now (sym p.parse-scalar.ensures ∙ ap said c.before.enum_told.given.1) c.refuse.ensures))
+    L.pointer_named p.before.before.args.marked p.before.before.args.inner.now (sym p.parse-scalar.ensures ∙ ap said c.before.enum_told.given.1) c.refuse.ensures))

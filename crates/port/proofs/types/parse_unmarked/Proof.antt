@@ -22,9 +22,9 @@ parse-unmarked-spec =
     (λ c κs. search rules)
     (λ c κs. search rules)
     (λ c. let p = c.before.before in let s = p.before.before.before.before.args.s.now in
-    c.listless.ensures ∙ ap (answered p.before.before.before.before.args.marked) (L.is-token s (ap (λ (t : List ℕ). same t (bytes "token")) (sym p.before.before.unprefixed.ensures) ∙ sym p.same.ensures ∙ c.before.if1.true)))
+    c.listless.ensures ∙ ap (answered p.before.before.before.before.args.marked) (L.is_token s (ap (λ (t : List ℕ). same t (bytes "token")) (sym p.before.before.unprefixed.ensures) ∙ sym p.same.ensures ∙ c.before.if1.true)))
     (λ c κs. search rules)
     (λ c. let p = c.before.before in let s = p.before.before.before.before.args.s.now in
     let b = p.before.before.before.before.args.marked in
     c.parse-named.ensures ∙ ap (λ (t : List ℕ). answered b (each (carried 8) (first_of shorthand t (bare s)))) p.before.before.unprefixed.ensures
-    ∙ ap (λ (o : Option Found). answered b (each (carried 8) o)) (L.no-token s (ap (λ (t : List ℕ). same t (bytes "token")) (sym p.before.before.unprefixed.ensures) ∙ sym p.same.ensures ∙ c.before.if1.false))))
+    ∙ ap (λ (o : Option Found). answered b (each (carried 8) o)) (L.no_token s (ap (λ (t : List ℕ). same t (bytes "token")) (sym p.before.before.unprefixed.ensures) ∙ sym p.same.ensures ∙ c.before.if1.false))))

@@ -5,12 +5,12 @@ use borrow.Author.Rules.{rules}
 use lib.ListN.{length}
 use Rattle.lexis.specs.Text.{bytes}
 use Rattle.lexis.proofs.Lists.{rest}
-use Rattle.lexis.proofs.Seeking.{begins-within}
+use Rattle.lexis.proofs.Seeking.{begins_within}
 use Rattle.port.proofs.types.unprefixed.Statement.{statement}
 use Rattle.port.proofs.types.unprefixed.Tie as tie
 
 eleven : (c : tie.Then1) → 11 ≤ length c.before.before.before.before.args.s.now
-eleven c = begins-within (bytes "!cuda_tile.") c.before.before.before.before.args.s.now (sym c.before.begins.ensures ∙ c.if1.true)
+eleven c = begins_within (bytes "!cuda_tile.") c.before.before.before.before.args.s.now (sym c.before.begins.ensures ∙ c.if1.true)
 
 pub unprefixed-spec : {M : Type 1} → statement M
 unprefixed-spec =

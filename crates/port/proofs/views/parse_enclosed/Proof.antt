@@ -16,6 +16,6 @@ parse-enclosed-spec =
     (λ c κs. search rules)
     (λ c. sym (length-take-le _ _ (search rules)))
     (λ c κs. c.before.before.before.scan.ensures.places)
-    (λ c. let a = c.before.before.before.before.before.before.before.args in S.enclosed-at a.inner.now a.i c.before.before.before.before.scan.ensures c.before.before.before.if1.true c.parse-tensor.ensures)
+    (λ c. let a = c.before.before.before.before.before.before.before.args in S.enclosed_at a.inner.now a.i c.before.before.before.before.scan.ensures c.before.before.before.if1.true c.parse-tensor.ensures)
     (λ c κs. search rules)
-    (λ c. let a = c.before.before.before.before.before.args in S.enclosed-nowhere a.inner.now a.i c.before.before.scan.ensures (search rules) c.no-tensor.ensures))
+    (λ c. let a = c.before.before.before.before.before.args in S.enclosed_nowhere a.inner.now a.i c.before.before.scan.ensures (search rules) c.no-tensor.ensures))

@@ -4,7 +4,7 @@ use borrow.Author.Rules.{rules}
 use borrow.Author.Tests.{not-true, not-false}
 use Rattle.lexis.specs.Text.{bytes, cut}
 use Rattle.meaning.specs.Found.{unused}
-use Rattle.meaning.specs.Views.{sparse-by}
+use Rattle.meaning.specs.Views.{sparse_by}
 use Rattle.port.specs.Carried.{answered}
 use Rattle.port.proofs.Clauses as L
 use Rattle.port.proofs.Making as M
@@ -19,7 +19,7 @@ parse-gather-scatter-view-spec =
     (λ c κs. search rules)
     (λ c κs. search rules)
     (λ c. let p = c.before.before.before in let a = p.before.before.args in
-    c.refuse.ensures ∙ ap (answered a.marked) (S.no-gather a.inner.now p.parse-view.ensures (not-true _ c.before.if1.true)))
+    c.refuse.ensures ∙ ap (answered a.marked) (S.no_gather a.inner.now p.parse-view.ensures (not-true _ c.before.if1.true)))
     (λ c κs. search rules)
     (λ c κs. search rules)
     (λ c κs. c.before.before.before.before.before.before.requires.sparse)
@@ -27,10 +27,10 @@ parse-gather-scatter-view-spec =
     let v = S.sound s p.parse-view.ensures (not-false _ i.if1.false) in record {
       shape = v.0;
       strides = v.1;
-      map = M.sound-list unused c.before.before.none32.ensures;
-      traversal = M.sound-list unused c.before.none322.ensures;
-      sparse = M.sound-one (sparse-by (cut (bytes "sparse_dim=") s)) c.parse-sparse.ensures (L.one-sparse (cut (bytes "sparse_dim=") s));
+      map = M.sound_list unused c.before.before.none32.ensures;
+      traversal = M.sound_list unused c.before.none322.ensures;
+      sparse = M.sound_one (sparse_by (cut (bytes "sparse_dim=") s)) c.parse-sparse.ensures (L.one_sparse (cut (bytes "sparse_dim=") s));
     })
     (λ c. let i = c.before.before.before.before in let p = i.before.before in let a = p.before.before.args in
-    c.view-of.ensures ∙ ap (answered a.marked) (S.gather-is a.inner.now p.parse-view.ensures (not-false _ i.if1.false)
+    c.view_of.ensures ∙ ap (answered a.marked) (S.gather_is a.inner.now p.parse-view.ensures (not-false _ i.if1.false)
     refl c.before.before.before.none32.ensures c.before.before.none322.ensures c.before.parse-sparse.ensures)))

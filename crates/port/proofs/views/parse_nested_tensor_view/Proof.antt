@@ -11,10 +11,10 @@ parse-nested-tensor-view-spec =
     (tie.spec
     (λ c κs. search rules)
     (λ c. search rules)
-    (λ c κs. S.opened-within c.before.before.before.opens.ensures.1 c.before.i.given.1)
+    (λ c κs. S.opened_within c.before.before.before.opens.ensures.1 c.before.i.given.1)
     (λ c. search rules)
     (λ c κs. search rules)
     (λ c. let a = c.before.before.before.before.before.before.args in
-    S.opened-at a.inner.now (drop a.behind a.inner.now) c.before.before.before.before.opens.ensures.0 c.before.before.i.given.1 c.parse-enclosed.ensures)
+    S.opened_at a.inner.now (drop a.behind a.inner.now) c.before.before.before.before.opens.ensures.0 c.before.before.i.given.1 c.parse-enclosed.ensures)
     (λ c. let a = c.before.before.before.before.before.args in
-    S.opened-nowhere a.inner.now (drop a.behind a.inner.now) c.before.before.before.opens.ensures.0 c.before.enum_told.given.1 c.no-tensor.ensures))
+    S.opened_nowhere a.inner.now (drop a.behind a.inner.now) c.before.before.before.opens.ensures.0 c.before.enum_told.given.1 c.no-tensor.ensures))

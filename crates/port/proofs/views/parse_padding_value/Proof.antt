@@ -15,31 +15,31 @@ use Rattle.lexis.proofs.contains.Reads as contains-reads
 abbrev text1 : lts.Else1 (contains-reads.Asked, contains-reads.Learnt) reads.Pre reads.Post → Text
 text1 c = c.before.before.args.inner.now
 
-left1 : (c : lts.Else1 (contains-reads.Asked, contains-reads.Learnt) reads.Pre reads.Post) → W.padding (text1 c) ≡ L.asks-neg-zero (text1 c)
+left1 : (c : lts.Else1 (contains-reads.Asked, contains-reads.Learnt) reads.Pre reads.Post) → W.padding (text1 c) ≡ L.asks_neg_zero (text1 c)
 left1 c = L.asked (text1 c) ∙ rw (ap found (P.placed c.before.before.requires (search rules)))
 
 abbrev text2 : lts.Else2 (contains-reads.Asked, contains-reads.Learnt) reads.Pre reads.Post → Text
 text2 c = text1 c.before.before.before
 
-left2 : (c : lts.Else2 (contains-reads.Asked, contains-reads.Learnt) reads.Pre reads.Post) → W.padding (text2 c) ≡ L.asks-zero (text2 c)
+left2 : (c : lts.Else2 (contains-reads.Asked, contains-reads.Learnt) reads.Pre reads.Post) → W.padding (text2 c) ≡ L.asks_zero (text2 c)
 left2 c = left1 c.before.before.before ∙ rw (sym c.before.contains.ensures ∙ c.if2.false)
 
 abbrev text3 : lts.Else3 (contains-reads.Asked, contains-reads.Learnt) reads.Pre reads.Post → Text
 text3 c = text2 c.before.before.before
 
-left3 : (c : lts.Else3 (contains-reads.Asked, contains-reads.Learnt) reads.Pre reads.Post) → W.padding (text3 c) ≡ L.asks-nan (text3 c)
+left3 : (c : lts.Else3 (contains-reads.Asked, contains-reads.Learnt) reads.Pre reads.Post) → W.padding (text3 c) ≡ L.asks_nan (text3 c)
 left3 c = left2 c.before.before.before ∙ rw (sym c.before.contains2.ensures ∙ c.if3.false)
 
 abbrev text4 : lts.Else4 (contains-reads.Asked, contains-reads.Learnt) reads.Pre reads.Post → Text
 text4 c = text3 c.before.before.before
 
-left4 : (c : lts.Else4 (contains-reads.Asked, contains-reads.Learnt) reads.Pre reads.Post) → W.padding (text4 c) ≡ L.asks-pos-inf (text4 c)
+left4 : (c : lts.Else4 (contains-reads.Asked, contains-reads.Learnt) reads.Pre reads.Post) → W.padding (text4 c) ≡ L.asks_pos_inf (text4 c)
 left4 c = left3 c.before.before.before ∙ rw (sym c.before.contains3.ensures ∙ c.if4.false)
 
 abbrev text5 : lts.Else5 (contains-reads.Asked, contains-reads.Learnt) reads.Pre reads.Post → Text
 text5 c = text4 c.before.before.before
 
-left5 : (c : lts.Else5 (contains-reads.Asked, contains-reads.Learnt) reads.Pre reads.Post) → W.padding (text5 c) ≡ L.asks-neg-inf (text5 c)
+left5 : (c : lts.Else5 (contains-reads.Asked, contains-reads.Learnt) reads.Pre reads.Post) → W.padding (text5 c) ≡ L.asks_neg_inf (text5 c)
 left5 c = left4 c.before.before.before ∙ rw (sym c.before.contains4.ensures ∙ c.if5.false)
 
 pub parse-padding-value-spec : {M : Type 1} → statement M

@@ -7,7 +7,7 @@ use Rattle.lexis.specs.Text.{bytes}
 use lib.IntN.{pos}
 use lib.ListN.{replicate}
 use Rattle.meaning.specs.Found.{unused, filled}
-use Rattle.meaning.specs.Views.{list-after, count-up}
+use Rattle.meaning.specs.Views.{list_after, count_up}
 use Rattle.lists.specs.Laid.{list32}
 use Rattle.port.specs.Carried.{answered}
 use Rattle.port.proofs.Clauses as L
@@ -23,7 +23,7 @@ parse-strided-view-spec =
     (λ c κs. search rules)
     (λ c κs. search rules)
     (λ c. let p = c.before.before.before in let a = p.before.before.args in
-    c.refuse.ensures ∙ ap (answered a.marked) (S.no-strided a.inner.now p.parse-view.ensures (not-true _ c.before.if1.true)))
+    c.refuse.ensures ∙ ap (answered a.marked) (S.no_strided a.inner.now p.parse-view.ensures (not-true _ c.before.if1.true)))
     (λ c. search rules)
     (λ c κs. search rules)
     (λ c κs. c.before.before.before.before.before.before.before.requires.map)
@@ -35,10 +35,10 @@ parse-strided-view-spec =
     let v = S.sound s p.parse-view.ensures (not-false _ i.if1.false) in record {
       shape = v.0;
       strides = v.1;
-      map = L.sound-or (list32 m.before.count-up.result) (list-after (bytes "dim_map=[") s) (M.sound-list (filled (count-up 0 p.parse-view.result.tile.row.len)) m.before.count-up.ensures) m.parse-i32-list-after.ensures;
-      traversal = L.sound-or (list32 t.before.ones.result) (list-after (bytes "traversal_strides=[") s) (M.sound-list (filled (replicate p.parse-view.result.tile.row.len (pos 1))) t.before.ones.ensures) t.parse-i32-list-after2.ensures;
-      sparse = M.sound-one unused c.none32.ensures (omega arith);
+      map = L.sound_or (list32 m.before.count_up.result) (list_after (bytes "dim_map=[") s) (M.sound_list (filled (count_up 0 p.parse-view.result.tile.row.len)) m.before.count_up.ensures) m.parse-i32-list-after.ensures;
+      traversal = L.sound_or (list32 t.before.ones.result) (list_after (bytes "traversal_strides=[") s) (M.sound_list (filled (replicate p.parse-view.result.tile.row.len (pos 1))) t.before.ones.ensures) t.parse-i32-list-after2.ensures;
+      sparse = M.sound_one unused c.none32.ensures (omega arith);
     })
     (λ c. let t = c.before.before in let m = t.before.before.before in let i = m.before.before.before.before in let p = i.before.before in let a = p.before.before.args in
-    c.view-of.ensures ∙ ap (answered a.marked) (S.strided-is a.inner.now p.parse-view.ensures (not-false _ i.if1.false) refl
-    m.before.count-up.ensures m.parse-i32-list-after.ensures t.before.ones.ensures t.parse-i32-list-after2.ensures c.before.none32.ensures)))
+    c.view_of.ensures ∙ ap (answered a.marked) (S.strided_is a.inner.now p.parse-view.ensures (not-false _ i.if1.false) refl
+    m.before.count_up.ensures m.parse-i32-list-after.ensures t.before.ones.ensures t.parse-i32-list-after2.ensures c.before.none32.ensures)))

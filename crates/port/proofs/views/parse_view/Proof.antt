@@ -12,10 +12,10 @@ parse-view-spec =
     (tie.spec
     (λ c κs. c.before.requires.tile)
     (λ c κs. search rules)
-    (λ c. let t = c.before.before.before in S.no-view t.before.before.args.inner.now _ _ t.parse-view-tile-shape.ensures (not-true _ c.before.if1.true) c.no-view.ensures)
+    (λ c. let t = c.before.before.before in S.no_view t.before.before.args.inner.now _ _ t.parse-view-tile-shape.ensures (not-true _ c.before.if1.true) c.no_view.ensures)
     (λ c κs. let t = c.before.before.before in let a = t.before.before in
-    let f = S.behind-fits a.args.inner.now _ _ t.parse-view-tile-shape.ensures (not-false _ c.before.if1.false) in (a.requires, omega (arith, f.0, f.1), f.0, f.1))
+    let f = S.behind_fits a.args.inner.now _ _ t.parse-view-tile-shape.ensures (not-false _ c.before.if1.false) in (a.requires, omega (arith, f.0, f.1), f.0, f.1))
     (λ c κs. c.before.before.before.before.before.before.requires.padding)
     (λ c. let i = c.before.before.before in let t = i.before.before in
-    S.whole-view t.before.before.args.inner.now _ _ t.parse-view-tile-shape.ensures (not-false _ i.if1.false) _ _
+    S.whole_view t.before.before.args.inner.now _ _ t.parse-view-tile-shape.ensures (not-false _ i.if1.false) _ _
     c.before.parse-nested-tensor-view.ensures c.parse-padding-value.ensures))

@@ -14,7 +14,7 @@ parse-view-tile-shape-spec =
     tie.close
     (tie.spec
     (λ c κs. search rules)
-    (λ c. let p = c.before.before.before in S.tile-absent p.args.inner.now p.args.at (P.unplaced-at p.requires c.before.if1.true) _ c.no_tile.ensures)
+    (λ c. let p = c.before.before.before in S.tile_absent p.args.inner.now p.args.at (P.unplaced_at p.requires c.before.if1.true) _ c.no_tile.ensures)
     (λ c. omega (arith, P.fits c.before.before.requires (search rules)))
     (λ c. omega (arith, P.fits c.before.before.requires (search rules)))
     (λ c. omega (arith, P.fits c.before.before.requires (search rules)))
@@ -22,15 +22,15 @@ parse-view-tile-shape-spec =
     (λ c. search rules)
     (λ c κs. search rules)
     (λ c. search rules)
-    (λ c. let d = c.before in let p = d.before.before.before.before.before.before.before in omega (arith, L.next-within (bytes "tile=(") p.args.inner.now _ (P.placed_at p.requires (search rules)) (bytes ")") _ (sym d.before.before.find.ensures ∙ ap spot d.n.given.1)))
+    (λ c. let d = c.before in let p = d.before.before.before.before.before.before.before in omega (arith, L.next_within (bytes "tile=(") p.args.inner.now _ (P.placed_at p.requires (search rules)) (bytes ")") _ (sym d.before.before.find.ensures ∙ ap spot d.n.given.1)))
     (λ c. search rules)
     (λ c. search rules)
-    (λ c. let d = c.before in let p = d.before.before.before.before.before.before.before in omega (arith, L.next-within (bytes "tile=(") p.args.inner.now _ (P.placed_at p.requires (search rules)) (bytes ")") _ (sym d.before.before.find.ensures ∙ ap spot d.n.given.1)))
+    (λ c. let d = c.before in let p = d.before.before.before.before.before.before.before in omega (arith, L.next_within (bytes "tile=(") p.args.inner.now _ (P.placed_at p.requires (search rules)) (bytes ")") _ (sym d.before.before.find.ensures ∙ ap spot d.n.given.1)))
     (λ c κs. search rules)
-    (λ c. let d = c.before.before.before in let p = d.before.before.before.before.before.before.before in omega (arith, L.next-within (bytes "tile=(") p.args.inner.now _ (P.placed_at p.requires (search rules)) (bytes ")") _ (sym d.before.before.find.ensures ∙ ap spot d.n.given.1)))
+    (λ c. let d = c.before.before.before in let p = d.before.before.before.before.before.before.before in omega (arith, L.next_within (bytes "tile=(") p.args.inner.now _ (P.placed_at p.requires (search rules)) (bytes ")") _ (sym d.before.before.find.ensures ∙ ap spot d.n.given.1)))
     (λ c. search rules)
     (λ c κs. search rules)
     (λ c. let d = c.before.before.before in let p = d.before.before.before.before.before.before.before in
-    S.tile-closed p.args.inner.now _ (P.placed_at p.requires (search rules)) _ (sym d.before.before.find.ensures ∙ ap spot d.n.given.1) _ c.tile-entries.ensures)
+    S.tile_closed p.args.inner.now _ (P.placed_at p.requires (search rules)) _ (sym d.before.before.find.ensures ∙ ap spot d.n.given.1) _ c.tile_entries.ensures)
     (λ c. let d = c.before in let p = d.before.before.before.before.before.before.before in
-    S.tile-unclosed p.args.inner.now _ (P.placed_at p.requires (search rules)) (sym d.before.before.find.ensures ∙ ap spot d.enum_told.given.1) _ c.no-tile2.ensures))
+    S.tile_unclosed p.args.inner.now _ (P.placed_at p.requires (search rules)) (sym d.before.before.find.ensures ∙ ap spot d.enum_told.given.1) _ c.no-tile2.ensures))

@@ -14,6 +14,6 @@ tile-entries-spec =
     (λ c κs. search rules)
     (λ c κs. search rules)
     (λ c. let p = c.before.before in let a = p.before.before.before in
-    L.tile-crossed a.args.s.now (sym p.contains.ensures ∙ c.before.if1.true) c.parse-smalls.ensures)
+    L.tile_crossed a.args.s.now (sym p.contains.ensures ∙ c.before.if1.true) c.parse-smalls.ensures)
     (λ c. let p = c.before.before in let a = p.before.before.before in
-    L.tile-listed a.args.s.now (sym p.contains.ensures ∙ c.before.if1.false) c.parse-smalls2.ensures))
+    L.tile_listed a.args.s.now (sym p.contains.ensures ∙ c.before.if1.false) c.parse-smalls2.ensures))

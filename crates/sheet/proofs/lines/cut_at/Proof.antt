@@ -10,5 +10,5 @@ cut-at-spec =
     (tie.spec
     (λ c κs. search rules)
     (λ c κs. search rules)
-    (λ c. let a = c.before.before.before.before.args in L.cut-row 65536 a.sheet.now a.place c.before.before.if1.true c.before.seek.ensures c.behind.ensures)
-    (λ c. let a = c.before.before.args in L.cut-none 65536 a.sheet.now a.place c.if1.false))
+    (λ c. let a = c.before.before.before.before.args in L.cut_row 65536 a.sheet.now a.place c.before.before.if1.true c.before.seek.ensures c.behind.ensures)
+    (λ c. let a = c.before.before.args in L.cut_none 65536 a.sheet.now a.place c.if1.false))

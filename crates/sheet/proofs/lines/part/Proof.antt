@@ -9,7 +9,7 @@ part-spec =
     tie.close
     (tie.spec
     (λ c. search rules)
-    (λ c. let a = c.before.before.args in L.none-there a.sheet.now a.end a.first c.before.if1.true)
+    (λ c. let a = c.before.before.args in L.none_there a.sheet.now a.end a.first c.before.if1.true)
     (λ c. search rules)
     (λ c. search rules)
     (λ c. search rules)

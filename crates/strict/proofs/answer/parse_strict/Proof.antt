@@ -16,12 +16,12 @@ parse-strict-spec =
     (λ c κs. search rules)
     (λ c κs. search rules)
     (λ c. let j = c.before.before in let s = j.before.before.before.args.text.now in
-    L.strictly s (L.taken-on s whole_is (search rules) (sym c.before.number.ensures ∙ c.if2.true) j.judge.ensures))
+    L.strictly s (L.taken_on s whole_is (search rules) (sym c.before.number.ensures ∙ c.if2.true) j.judge.ensures))
     (λ c κs. search rules)
     (λ c. search rules)
     (λ c κs. search rules)
     (λ c. search rules)
     (λ c. let p = c.before.before.before.before in let s = p.before.before.before.before.before.before.args.text.now in
-    L.strictly s (L.high-at s _ (search rules) (sym p.first-high.ensures ∙ ap spot c.before.before.place.given.1) c.refuse2.ensures))
+    L.strictly s (L.high_at s _ (search rules) (sym p.first-high.ensures ∙ ap spot c.before.before.place.given.1) c.refuse2.ensures))
     (λ c. let p = c.before.before in let j = p.before.before.before in let s = j.before.before.before.args.text.now in
-    L.strictly s (L.read-on s whole_is (search rules) (sym p.first-high.ensures ∙ ap spot c.enum_told.given.1) j.judge.ensures)))
+    L.strictly s (L.read_on s whole_is (search rules) (sym p.first-high.ensures ∙ ap spot c.enum_told.given.1) j.judge.ensures)))

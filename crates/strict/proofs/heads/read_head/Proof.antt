@@ -13,7 +13,7 @@ returns c = let a = c.before.before.before.before.args in let k = sym c.before.b
 
 returns-2 : tie.Need-returns-2
 unfolding W.choose W.among
-returns-2 c = let a = c.before.before.before.before.before.before.args in let k = sym c.before.before.before.before.peek.ensures ∙ c.before.before.before.match.keys2 in L.down-next a.s.now 0 98 (W.entries M.heads) k tt c.fork.ensures
+returns-2 c = let a = c.before.before.before.before.before.before.args in let k = sym c.before.before.before.before.peek.ensures ∙ c.before.before.before.match.keys2 in L.down_next a.s.now 0 98 (W.entries M.heads) k tt c.fork.ensures
 
 returns-3 : tie.Need-returns-3
 unfolding W.choose W.among
@@ -39,7 +39,7 @@ read-head-spec =
     (λ c κs. let a = c.before.before.before.args in let k = sym c.before.peek.ensures ∙ c.match.keys1 in L.within a.s.now 0 33 k tt)
     (λ c. search rules)
     (λ c. search rules)
-    (λ c κs. let a = c.before.before.before.before.before.args in let k = sym c.before.before.before.peek.ensures ∙ c.before.before.match.keys2 in (L.within-place a.s.now 0 98 k tt, tt))
+    (λ c κs. let a = c.before.before.before.before.before.args in let k = sym c.before.before.before.peek.ensures ∙ c.before.before.match.keys2 in (L.within_place a.s.now 0 98 k tt, tt))
     (λ c κs. let a = c.before.before.before.args in let k = sym c.before.peek.ensures ∙ c.match.keys3 in L.within a.s.now 0 102 k tt)
     (λ c κs. let a = c.before.before.before.args in let k = sym c.before.peek.ensures ∙ c.match.keys4 in L.within a.s.now 0 105 k tt)
     (λ c κs. let a = c.before.before.before.args in let k = sym c.before.peek.ensures ∙ c.match.keys5 in L.within a.s.now 0 116 k tt)

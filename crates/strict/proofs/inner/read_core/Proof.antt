@@ -15,8 +15,8 @@ returns : tie.Need-returns
 unfolding choose among
 returns c = let a = c.before.before.before.before.before.before.args in let s = a.s.now in let n = c.before.before.before.before.read-core-name in let m = c.read_word in let o = n.ensures.onward in let q = m.ensures.onward in
     record {
-      same = L.core_is s a.from ∙ H.chain s (choose I.kerns) I.core-of n.result.word a.from n.result.end n.ensures.same
-          ∙ L.core-plain s n.result.end n.result.word (search rules)
+      same = L.core_is s a.from ∙ H.chain s (choose I.kerns) I.core_of n.result.word a.from n.result.end n.ensures.same
+          ∙ L.core_plain s n.result.end n.result.word (search rules)
           ∙ H.last s (choose (bytes ">|")) (λ (k : ℕ). I.plain n.result.word) m.result.word n.result.end m.result.end m.ensures.same;
       inside = m.ensures.inside;
       onward = omega arith;
@@ -26,8 +26,8 @@ returns-2 : tie.Need-returns-2
 unfolding choose among
 returns-2 c = let a = c.before.before.before.before.before.before.before.args in let s = a.s.now in let n = c.before.before.before.before.before.read-core-name in let m = c.read-pointee in let o = n.ensures.onward in let q = m.ensures.onward in
     record {
-      same = L.core_is s a.from ∙ H.chain s (choose I.kerns) I.core-of n.result.word a.from n.result.end n.ensures.same
-          ∙ L.core-point s n.result.end n.result.word (search rules) ∙ m.ensures.same;
+      same = L.core_is s a.from ∙ H.chain s (choose I.kerns) I.core_of n.result.word a.from n.result.end n.ensures.same
+          ∙ L.core_point s n.result.end n.result.word (search rules) ∙ m.ensures.same;
       inside = m.ensures.inside;
       onward = omega arith;
     }

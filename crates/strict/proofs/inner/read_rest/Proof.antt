@@ -29,8 +29,8 @@ read-rest-spec =
     (λ c κs. search rules)
     (λ c. let a = c.before.before.before.before.before.before.args in let s = a.s.now in let n = c.before.before.before.read-open in let o = n.ensures.onward in
     record {
-      same = L.rest-zero s a.from a.rank c.before.before.before.before.if1.true ∙ H.chain s (choose I.opened) I.begun n.result.word a.from n.result.end n.ensures.same
-          ∙ L.begun-end s n.result.end n.result.word (search rules)
+      same = L.rest_zero s a.from a.rank c.before.before.before.before.if1.true ∙ H.chain s (choose I.opened) I.begun n.result.word a.from n.result.end n.ensures.same
+          ∙ L.begun_end s n.result.end n.result.word (search rules)
           ∙ ap (λ (x : List ℤ). C.valued s (I.rest_of (row x 0) n.result.word) n.result.end) (sym c.before.before.before.before.before.before.requires.1);
       inside = n.ensures.inside;
       onward = omega arith;
@@ -39,8 +39,8 @@ read-rest-spec =
     (λ c. search rules)
     (λ c. let a = c.before.before.before.before.before.before.before.before.args in let s = a.s.now in let n = c.before.before.before.before.before.read-open in let m = c.before.read-strides in let o = n.ensures.onward in let q = m.ensures.onward in
     record {
-      same = L.rest-zero s a.from a.rank c.before.before.before.before.before.before.if1.true ∙ H.chain s (choose I.opened) I.begun n.result.word a.from n.result.end n.ensures.same
-          ∙ L.begun-list s n.result.end n.result.word (search rules) ∙ m.ensures.same;
+      same = L.rest_zero s a.from a.rank c.before.before.before.before.before.before.if1.true ∙ H.chain s (choose I.opened) I.begun n.result.word a.from n.result.end n.ensures.same
+          ∙ L.begun_list s n.result.end n.result.word (search rules) ∙ m.ensures.same;
       inside = m.ensures.inside;
       onward = omega arith;
     })

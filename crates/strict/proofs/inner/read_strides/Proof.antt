@@ -15,7 +15,7 @@ returns : tie.Need-returns
 unfolding choose among
 returns c = let a = c.before.before.before.before.before.before.before.before.before.args in let s = a.s.now in let n = c.before.before.before.before.before.before.read-list64 in let m = c.before.read-two in let l = row n.new.1.1.0 n.result.len in let o = n.ensures.onward in let q = m.ensures.onward in
     record {
-      same = L.listed-is s a.from ∙ H.chain s I.strides (λ l r. mapped (I.rest_of l) (choose I.brackets r)) l a.from n.result.end n.ensures.same
+      same = L.listed_is s a.from ∙ H.chain s I.strides (λ l r. mapped (I.rest_of l) (choose I.brackets r)) l a.from n.result.end n.ensures.same
           ∙ H.last s (choose I.brackets) (I.rest_of l) m.result.word n.result.end m.result.end m.ensures.same;
       inside = m.ensures.inside;
       onward = omega arith;

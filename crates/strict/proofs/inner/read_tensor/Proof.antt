@@ -22,10 +22,10 @@ read-tensor-spec =
     (λ c. search rules)
     (λ c. let a = c.before.before.before.before.before.before.before.before.args in let s = a.s.now in let n = c.before.before.before.before.before.read-shape in let w = c.before.before.before.read_name in let m = c.before.read-rest in let l = row n.new.1.1.0 n.result.len in let o = n.ensures.onward in let p = w.ensures.onward in let q = m.ensures.onward in
     record {
-      same = L.tensor-is s a.from
-          ∙ H.chain s I.shape (λ l r. after (λ k x. mapped (I.tens-of l k) (I.rest l.len x)) (choose I.names r)) l a.from n.result.end n.ensures.same
-          ∙ H.chain s (choose I.names) (λ k x. mapped (I.tens-of l k) (I.rest l.len x)) w.result.word n.result.end w.result.end w.ensures.same
-          ∙ H.last s (I.rest l.len) (I.tens-of l w.result.word) (I.rested m.new.1.1.1.0 m.result) w.result.end m.result.end m.ensures.same;
+      same = L.tensor_is s a.from
+          ∙ H.chain s I.shape (λ l r. after (λ k x. mapped (I.tens_of l k) (I.rest l.len x)) (choose I.names r)) l a.from n.result.end n.ensures.same
+          ∙ H.chain s (choose I.names) (λ k x. mapped (I.tens_of l k) (I.rest l.len x)) w.result.word n.result.end w.result.end w.ensures.same
+          ∙ H.last s (I.rest l.len) (I.tens_of l w.result.word) (I.rested m.new.1.1.1.0 m.result) w.result.end m.result.end m.ensures.same;
       inside = m.ensures.inside;
       onward = omega arith;
     }))

@@ -19,8 +19,8 @@ read-tile-spec =
     (λ c. search rules)
     (λ c. let a = c.before.before.before.before.before.args in let s = a.s.now in let n = c.before.before.read-shape in let m = c.read-core in let l = row n.new.1.1.0 n.result.len in let o = n.ensures.onward in let q = m.ensures.onward in
     record {
-      same = L.tile-is s a.from ∙ H.chain s I.shape (λ l r. mapped (I.tile-of l) (I.core r)) l a.from n.result.end n.ensures.same
-          ∙ H.last s I.core (I.tile-of l) (I.cored m.result) n.result.end m.result.end m.ensures.same;
+      same = L.tile_is s a.from ∙ H.chain s I.shape (λ l r. mapped (I.tile_of l) (I.core r)) l a.from n.result.end n.ensures.same
+          ∙ H.last s I.core (I.tile_of l) (I.cored m.result) n.result.end m.result.end m.ensures.same;
       inside = m.ensures.inside;
       onward = omega arith;
     }))

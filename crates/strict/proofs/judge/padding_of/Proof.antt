@@ -14,4 +14,4 @@ padding-of-spec =
     (λ c. rw (not-true c.before.args.given c.if1.true))
     (λ c. search rules)
     (λ c. let a = c.before.before.before.args in rw (not-false a.given c.before.before.if1.false) (L.nth_in Zero Absent paddings a.k (search rules)))
-    (λ c. let a = c.before.before.args in rw (not-false a.given c.before.if1.false) (L.nth-out Zero paddings a.k (search rules))))
+    (λ c. let a = c.before.before.args in rw (not-false a.given c.before.if1.false) (L.nth_out Zero paddings a.k (search rules))))

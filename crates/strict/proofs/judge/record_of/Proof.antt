@@ -11,4 +11,4 @@ record-of-spec =
     (tie.spec
     (λ c κs. search rules)
     (λ c κs. search rules)
-    (λ c. let a = c.before.before.before.args in L.laid-is (M.entire a.shape a.strides a.tile a.map a.walk a.w) c.before.before.scalar-of.ensures (search rules) c.before.padding-of.ensures))
+    (λ c. let a = c.before.before.before.args in L.laid_is (M.entire a.shape a.strides a.tile a.map a.walk a.w) c.before.before.scalar_of.ensures (search rules) c.before.padding_of.ensures))

@@ -12,4 +12,4 @@ scalar-of-spec =
     (tie.spec
     (λ c. search rules)
     (λ c. L.nth_in I1 I1 scalars c.before.before.args.k (search rules))
-    (λ c. L.nth-out I1 scalars c.before.args.k (search rules)))
+    (λ c. L.nth_out I1 scalars c.before.args.k (search rules)))

@@ -17,7 +17,7 @@ use Rattle.strict.proofs.list.read_dim_x.Tie as tie
 
 returns : tie.Need-returns
 unfolding choose among
-returns c = let a = c.before.before.before.before.before.args in let s = a.s.now in let n = c.before.before.before.read-dim in let w = c.before.read_word in let v = n.result.value in let o = n.ensures.onward in let q = w.ensures.onward in let z : to_z w64 (of_z w64 v) ≡ v = search rules in let p = H.place-past s a.at c.before.before.before.before.before.requires in
+returns c = let a = c.before.before.before.before.before.args in let s = a.s.now in let n = c.before.before.before.read-dim in let w = c.before.read_word in let v = n.result.value in let o = n.ensures.onward in let q = w.ensures.onward in let z : to_z w64 (of_z w64 v) ≡ v = search rules in let p = H.place_past s a.at c.before.before.before.before.before.requires in
     record {
       same = sym (H.next_past s (λ t. after (λ z r. mapped (λ (k : ℕ). z) (choose (bytes "x|") r)) (C.dimension t)) a.at c.before.before.before.before.before.requires) ∙ K.chain s C.dimension (λ z r. mapped (λ (k : ℕ). z) (choose (bytes "x|") r)) v a.at n.result.end (H.next_past s C.dimension a.at c.before.before.before.before.before.requires ∙ n.ensures.same)
           ∙ K.last s (choose (bytes "x|")) (λ (k : ℕ). v) w.result.word n.result.end w.result.end w.ensures.same

@@ -23,7 +23,7 @@ read-list32-spec =
     (tie.spec
     (λ c. let a = c.before.before.args in H.idle a.s.now (λ t. mapped (pushes nothing) (list32 a.x t)) a.from (row a.out.now 0) (search rules) c.before.before.requires.0)
     (λ c κs. search rules)
-    (λ c. let a = c.before.before.before.before.before.args in L.no-first (tail32 a.x) (C.numeral (2 ^ 31) (2 ^ 31 + 1)) (search rules) c.before.before.number32.ensures (search rules) (row a.out.now 0))
+    (λ c. let a = c.before.before.before.before.before.args in L.no_first (tail32 a.x) (C.numeral (2 ^ 31) (2 ^ 31 + 1)) (search rules) c.before.before.number32.ensures (search rules) (row a.out.now 0))
     (λ c κs. search rules)
     (λ c κs. search rules)
     (λ c κs. search rules)

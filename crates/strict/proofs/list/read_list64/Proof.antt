@@ -18,7 +18,7 @@ read-list64-spec =
     (tie.spec
     (λ c. let a = c.before.before.args in H.idle a.s.now (λ t. mapped (pushes nothing) (list64 t)) a.from (row a.out.now 0) (search rules) c.before.before.requires.0)
     (λ c κs. search rules)
-    (λ c. let a = c.before.before.before.before.before.args in L.no-first commas64 C.dimension (search rules) c.before.before.read-dim.ensures (search rules) (row a.out.now 0))
+    (λ c. let a = c.before.before.before.before.before.args in L.no_first commas64 C.dimension (search rules) c.before.before.read-dim.ensures (search rules) (row a.out.now 0))
     (λ c κs. search rules)
     (λ c κs. search rules)
     (λ c. search rules)

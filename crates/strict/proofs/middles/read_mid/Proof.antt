@@ -11,11 +11,11 @@ use Rattle.strict.proofs.middles.read_mid.Tie as tie
 
 returns : tie.Need-returns
 unfolding W.choose W.among
-returns c = let a = c.before.before.before.before.before.args in let t = L.via-next a.s.now a.from (bytes "),") (W.entries Y.mids) tt c.before.read_word.ensures c.mid-comma.ensures in record { same = G.mid-tile a.s.now a.from a.tile c.before.before.before.if1.true ∙ t.same; inside = t.inside; onward = t.onward }
+returns c = let a = c.before.before.before.before.before.args in let t = L.via_next a.s.now a.from (bytes "),") (W.entries Y.mids) tt c.before.read_word.ensures c.mid-comma.ensures in record { same = G.mid_tile a.s.now a.from a.tile c.before.before.before.if1.true ∙ t.same; inside = t.inside; onward = t.onward }
 
 returns-2 : tie.Need-returns-2
 unfolding W.choose W.among
-returns-2 c = let a = c.before.before.before.before.before.args in let t = L.via-next a.s.now a.from (bytes "],") (W.entries Y.walk-mids) tt c.before.read-word2.ensures c.mid-comma2.ensures in record { same = G.mid-walk a.s.now a.from a.tile c.before.before.before.if1.false ∙ t.same; inside = t.inside; onward = t.onward }
+returns-2 c = let a = c.before.before.before.before.before.args in let t = L.via_next a.s.now a.from (bytes "],") (W.entries Y.walk_mids) tt c.before.read-word2.ensures c.mid-comma2.ensures in record { same = G.mid_walk a.s.now a.from a.tile c.before.before.before.if1.false ∙ t.same; inside = t.inside; onward = t.onward }
 
 pub read-mid-spec : {M : Type 1} → statement M
 read-mid-spec =

@@ -21,7 +21,7 @@ fits : (c : tie.Joined3 invariant-loop decreases-loop) → c.before.before.befor
 fits c =
     elim c.if3.branch [
       | inl h ↦ L.last_fits _ _ _ h.1.left h.2.left
-      | inr h ↦ L.any-fits _ _ _ h.left c.before.if2.false
+      | inr h ↦ L.any_fits _ _ _ h.left c.before.if2.false
     ]
 
 pub grow_spec : {M : Type 1} → statement M
@@ -30,16 +30,16 @@ grow_spec =
     (tie.spec invariant-loop decreases-loop
     (λ c. (search rules, search rules, search rules, refl))
     (λ c. search rules)
-    (λ c. let l = c.before.before.before.loop in record { same = l.invariant.3 ∙ L.grow-low _ l.n _ l.i (search rules) (search rules); inside = search rules; onward = search rules; below = search rules })
-    (λ c. let l = c.before.before.before.before.loop in record { same = l.invariant.3 ∙ L.grow-high _ l.n _ l.i (search rules) (search rules); inside = search rules; onward = search rules; below = search rules })
+    (λ c. let l = c.before.before.before.loop in record { same = l.invariant.3 ∙ L.grow_low _ l.n _ l.i (search rules) (search rules); inside = search rules; onward = search rules; below = search rules })
+    (λ c. let l = c.before.before.before.before.loop in record { same = l.invariant.3 ∙ L.grow_high _ l.n _ l.i (search rules) (search rules); inside = search rules; onward = search rules; below = search rules })
     (λ c. search rules)
-    (λ c. let l = c.before.before.before.before.before.before.loop in record { same = l.invariant.3 ∙ L.grow-over _ l.n _ l.i (search rules) (search rules); inside = search rules; onward = search rules; below = search rules })
+    (λ c. let l = c.before.before.before.before.before.before.loop in record { same = l.invariant.3 ∙ L.grow_over _ l.n _ l.i (search rules) (search rules); inside = search rules; onward = search rules; below = search rules })
     (λ c. search rules)
     (λ c. search rules)
-    (λ c. let l = c.before.before.before.before.before.before.before.loop in record { same = l.invariant.3 ∙ L.grow-past _ l.n _ l.i (search rules) (search rules) (search rules); inside = search rules; onward = search rules; below = search rules })
+    (λ c. let l = c.before.before.before.before.before.before.before.loop in record { same = l.invariant.3 ∙ L.grow_past _ l.n _ l.i (search rules) (search rules) (search rules); inside = search rules; onward = search rules; below = search rules })
     (λ c. let h = fits c in search rules)
     (λ c. let h = fits c in search rules)
     (λ c. search rules)
     (λ c. search rules)
-    (λ c. let l = c.before.before.before.before.before.loop in let h = fits c in (search rules, search rules, h, l.invariant.3 ∙ L.grow-on _ l.n _ l.i (search rules) (search rules) (search rules) (omega arith)))
-    (λ c. let l = c.before.loop in record { same = l.invariant.3 ∙ L.grow-end _ l.n _ l.i (search rules); inside = search rules; onward = search rules; below = search rules }))
+    (λ c. let l = c.before.before.before.before.before.loop in let h = fits c in (search rules, search rules, h, l.invariant.3 ∙ L.grow_on _ l.n _ l.i (search rules) (search rules) (search rules) (omega arith)))
+    (λ c. let l = c.before.loop in record { same = l.invariant.3 ∙ L.grow_end _ l.n _ l.i (search rules); inside = search rules; onward = search rules; below = search rules }))

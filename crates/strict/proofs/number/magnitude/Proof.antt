@@ -15,7 +15,7 @@ magnitude-spec =
     tie.close
     (tie.spec
     (λ c κs. search rules)
-    (λ c. let a = c.before.before.before.args in let t = H.off a.s.now a.at (N.magnitude (a.most + 1) (drop a.at a.s.now)) 0 a.at c.stuck.result c.stuck.ensures (search rules) (omega arith) (L.mag-end a.most a.s.now a.at (search rules)) in record { same = t.same; inside = t.inside; onward = t.onward; below = search rules })
+    (λ c. let a = c.before.before.before.args in let t = H.off a.s.now a.at (N.magnitude (a.most + 1) (drop a.at a.s.now)) 0 a.at c.stuck.result c.stuck.ensures (search rules) (omega arith) (L.mag_end a.most a.s.now a.at (search rules)) in record { same = t.same; inside = t.inside; onward = t.onward; below = search rules })
     (λ c. search rules)
     (λ c κs. search rules)
     (λ c. let a = c.before.before.before.before.before.args in let t = H.off a.s.now a.at (N.magnitude (a.most + 1) (drop a.at a.s.now)) 0 a.at c.stuck2.result c.stuck2.ensures (search rules) (omega arith) (L.mag_low a.most a.s.now a.at (search rules) (search rules)) in record { same = t.same; inside = t.inside; onward = t.onward; below = search rules })

@@ -1,5 +1,5 @@
 -- `minus64` meets its contract, by the laws of Numbers.
-use Rattle.numerals.proofs.Sign.{minus-fits, minus_is}
+use Rattle.numerals.proofs.Sign.{minus_fits, minus_is}
 use mir.Syntax.{w64}
 use borrow.Author.Rules.{rules}
 use Rattle.strict.proofs.number.minus64.Statement.{statement}
@@ -11,6 +11,6 @@ minus64-spec =
     (tie.spec
     (λ c. search rules)
     (λ c. search rules)
-    (λ c. minus-fits w64 _ c.if1.false (search rules))
+    (λ c. minus_fits w64 _ c.if1.false (search rules))
     (λ c. rw c.if1.true)
     (λ c. minus_is w64 _ c.if1.false (search rules)))

@@ -19,26 +19,26 @@ number32-spec =
     tie.close
     (tie.spec
     (λ c κs. search rules)
-    (λ c. let a = c.before.before.before.args in H.off a.s.now a.at (C.numeral (2 ^ 31) (2 ^ 31 + 1) (drop a.at a.s.now)) (pos 0) a.at c.stuck.result c.stuck.ensures (search rules) (omega arith) (L.num-end a.s.now a.at (2 ^ 31) (2 ^ 31 + 1) (search rules)))
+    (λ c. let a = c.before.before.before.args in H.off a.s.now a.at (C.numeral (2 ^ 31) (2 ^ 31 + 1) (drop a.at a.s.now)) (pos 0) a.at c.stuck.result c.stuck.ensures (search rules) (omega arith) (L.num_end a.s.now a.at (2 ^ 31) (2 ^ 31 + 1) (search rules)))
     (λ c. search rules)
     (λ c. search rules)
     (λ c κs. search rules)
     (λ c κs. search rules)
     (λ c. let a = c.before.before.before.before.before.before.args in let m = c.before.magnitude in let e = to_z-of_z w32 _ (record { sfits = c.minus32.type-inv }) ∙ c.minus32.ensures in let i = m.ensures.inside in let o = m.ensures.onward in
     record {
-      same = L.num-minus a.s.now a.at (2 ^ 31) (2 ^ 31 + 1) (search rules) (search rules) ∙ ap (mapped C.minus) m.ensures.same
-          ∙ L.mapped-valued C.minus a.s.now m.result.value m.result.end ∙ ap (λ (z : ℤ). C.valued a.s.now z m.result.end) (sym e);
+      same = L.num_minus a.s.now a.at (2 ^ 31) (2 ^ 31 + 1) (search rules) (search rules) ∙ ap (mapped C.minus) m.ensures.same
+          ∙ L.mapped_valued C.minus a.s.now m.result.value m.result.end ∙ ap (λ (z : ℤ). C.valued a.s.now z m.result.end) (sym e);
       inside = i;
       onward = omega arith;
     })
     (λ c. search rules)
-    (λ c. let a = c.before.before.before.before.before.args in H.past a.s.now a.at (C.numeral (2 ^ 31) (2 ^ 31 + 1) (drop a.at a.s.now)) (pos 0) (a.at + 1) (search rules) (omega arith) (L.num-zero a.s.now a.at (2 ^ 31) (2 ^ 31 + 1) (search rules) (search rules)))
+    (λ c. let a = c.before.before.before.before.before.args in H.past a.s.now a.at (C.numeral (2 ^ 31) (2 ^ 31 + 1) (drop a.at a.s.now)) (pos 0) (a.at + 1) (search rules) (omega arith) (L.num_zero a.s.now a.at (2 ^ 31) (2 ^ 31 + 1) (search rules) (search rules)))
     (λ c κs. search rules)
     (λ c. search rules)
     (λ c. let a = c.before.before.before.before.before.before.before.args in let m = c.before.magnitude2 in let b = m.ensures.below in let e = to_z_pos w32 m.result.value (search rules) in
     record {
-      same = L.num-plain a.s.now a.at (2 ^ 31) (2 ^ 31 + 1) (search rules) c.before.before.before.if2.false c.before.before.if3.false ∙ ap (mapped pos) m.ensures.same
-          ∙ L.mapped-valued pos a.s.now m.result.value m.result.end ∙ ap (λ (z : ℤ). C.valued a.s.now z m.result.end) (sym e);
+      same = L.num_plain a.s.now a.at (2 ^ 31) (2 ^ 31 + 1) (search rules) c.before.before.before.if2.false c.before.before.if3.false ∙ ap (mapped pos) m.ensures.same
+          ∙ L.mapped_valued pos a.s.now m.result.value m.result.end ∙ ap (λ (z : ℤ). C.valued a.s.now z m.result.end) (sym e);
       inside = m.ensures.inside;
       onward = m.ensures.onward;
     }))

@@ -12,8 +12,8 @@ space-spec =
     tie.close
     (tie.spec
     (λ c. let a = c.before.args in record { same = ap (λ k. gap k (drop a.at a.s.now)) c.if1.true; inside = search rules; onward = search rules })
-    (λ c. let a = c.before.before.args in record { same = ap (λ k. gap k (drop a.at a.s.now)) c.before.if1.false ∙ L.space-end a.s.now a.at (search rules); inside = search rules; onward = search rules })
+    (λ c. let a = c.before.before.args in record { same = ap (λ k. gap k (drop a.at a.s.now)) c.before.if1.false ∙ L.space_end a.s.now a.at (search rules); inside = search rules; onward = search rules })
     (λ c. search rules)
     (λ c. search rules)
-    (λ c. let a = c.before.before.before.before.args in record { same = ap (λ k. gap k (drop a.at a.s.now)) c.before.before.before.if1.false ∙ L.space-on a.s.now a.at (search rules) (search rules); inside = search rules; onward = search rules })
-    (λ c. let a = c.before.before.before.before.args in record { same = ap (λ k. gap k (drop a.at a.s.now)) c.before.before.before.if1.false ∙ L.space-off a.s.now a.at (search rules) c.if3.false; inside = search rules; onward = search rules }))
+    (λ c. let a = c.before.before.before.before.args in record { same = ap (λ k. gap k (drop a.at a.s.now)) c.before.before.before.if1.false ∙ L.space_on a.s.now a.at (search rules) (search rules); inside = search rules; onward = search rules })
+    (λ c. let a = c.before.before.before.before.args in record { same = ap (λ k. gap k (drop a.at a.s.now)) c.before.before.before.if1.false ∙ L.space_off a.s.now a.at (search rules) c.if3.false; inside = search rules; onward = search rules }))

@@ -19,7 +19,7 @@ read_last_spec =
     (λ c κs. search rules)
     (λ c. let a = c.before.before.before.before.args in let s = a.s.now in let n = c.before.read-sparse in let y = n.result.value in let z : to_z w32 (of_z w32 y) ≡ y = search rules in
     record {
-      same = L.ends-sparse s a.from a.sparse c.before.before.if1.true ∙ H.last s Y.sparse-part (Y.closed nothing) y a.from n.result.end n.ensures.same ∙ (λ i. C.valued s (Y.closed (row (sym c.before.before.before.before.requires.1 i) 0) (sym z i)) n.result.end);
+      same = L.ends_sparse s a.from a.sparse c.before.before.if1.true ∙ H.last s Y.sparse_part (Y.closed nothing) y a.from n.result.end n.ensures.same ∙ (λ i. C.valued s (Y.closed (row (sym c.before.before.before.before.requires.1 i) 0) (sym z i)) n.result.end);
       inside = n.ensures.inside;
       onward = n.ensures.onward;
     })
@@ -27,7 +27,7 @@ read_last_spec =
     (λ c. search rules)
     (λ c. let a = c.before.before.before.before.before.args in let s = a.s.now in let n = c.before.read-map in
     record {
-      same = L.ends-map s a.from a.sparse c.before.before.before.if1.false ∙ H.last s Y.map-part (λ m. Y.closed m (pos 0)) (row n.new.1.1.0 n.result.len) a.from n.result.end n.ensures.same;
+      same = L.ends_map s a.from a.sparse c.before.before.before.if1.false ∙ H.last s Y.map_part (λ m. Y.closed m (pos 0)) (row n.new.1.1.0 n.result.len) a.from n.result.end n.ensures.same;
       inside = n.ensures.inside;
       onward = n.ensures.onward;
     }))

@@ -17,7 +17,7 @@ returns : tie.Need-returns
 unfolding choose among
 returns c = let a = c.before.before.before.before.before.before.before.before.before.before.args in let s = a.s.now in let k = c.before.before.before.before.before.read-two in let n = c.before.before.before.read-list32 in let m = c.read_word in let l = row n.new.1.1.1.0 n.result.len in let o = k.ensures.onward in let p = n.ensures.onward in let q = m.ensures.onward in
     record {
-      same = L.map_is s a.from ∙ H.chain s (choose Y.maps) Y.map-from k.result.word a.from k.result.end k.ensures.same
+      same = L.map_is s a.from ∙ H.chain s (choose Y.maps) Y.map_from k.result.word a.from k.result.end k.ensures.same
           ∙ H.chain s (Y.entries false) Y.map_tail l k.result.end n.result.end n.ensures.same
           ∙ H.last s (choose (bytes "]>|")) (λ (j : ℕ). l) m.result.word n.result.end m.result.end m.ensures.same;
       inside = m.ensures.inside;

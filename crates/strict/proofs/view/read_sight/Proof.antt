@@ -24,7 +24,7 @@ read-sight-spec =
     (λ c. search rules)
     (λ c. let a = c.before.before.before.before.before.before.before.before.before.args in let s = a.s.now in let n = c.before.before.before.before.before.before.read-pad in let w = c.before.before.before.before.before.read-lead in let m = c.before.before.read-tensor in let o = n.ensures.onward in let p = w.ensures.onward in let q = m.ensures.onward in
     record {
-      same = L.sight-pad s a.from a.k (search rules) ∙ H.chain s (choose Y.pads) Y.led n.result.word a.from n.result.end n.ensures.same
+      same = L.sight_pad s a.from a.k (search rules) ∙ H.chain s (choose Y.pads) Y.led n.result.word a.from n.result.end n.ensures.same
           ∙ H.chain s (choose Y.leads) (λ (k : ℕ) x. mapped (Y.seen true n.result.word) (I.tensor x)) w.result.word n.result.end w.result.end w.ensures.same
           ∙ H.last s I.tensor (Y.seen true n.result.word) (I.tensed m.new.1.1.0 m.new.1.1.1.0 m.result) w.result.end m.result.end m.ensures.same;
       inside = m.ensures.inside;
@@ -35,7 +35,7 @@ read-sight-spec =
     (λ c. search rules)
     (λ c. let a = c.before.before.before.before.before.before.before.args in let s = a.s.now in let m = c.before.before.read-tensor2 in let q = m.ensures.onward in
     record {
-      same = L.sight-bare s a.from a.k (search rules) ∙ H.last s I.tensor (Y.seen false 0) (I.tensed m.new.1.1.0 m.new.1.1.1.0 m.result) a.from m.result.end m.ensures.same;
+      same = L.sight_bare s a.from a.k (search rules) ∙ H.last s I.tensor (Y.seen false 0) (I.tensed m.new.1.1.0 m.new.1.1.1.0 m.result) a.from m.result.end m.ensures.same;
       inside = m.ensures.inside;
       onward = omega arith;
     }))

@@ -3,7 +3,7 @@ use Rattle.strict.proofs.Chain as H
 use Rattle.strict.specs.Cursor as C
 use Rattle.strict.specs.Views as Y
 use Rattle.strict.proofs.Viewing as L
-use Rattle.strict.proofs.Cursors.{next-off, next_past, place-past}
+use Rattle.strict.proofs.Cursors.{next_off, next_past, place_past}
 use lib.ListN.{length}
 use Rattle.strict.specs.Words.{choose, among}
 use Rattle.lexis.specs.Text.{bytes}
@@ -21,17 +21,17 @@ returns : tie.Need-returns
 unfolding choose among
 returns c = let a = c.before.before.before.before.before.before.before.args in let s = a.s.now in let k = c.before.before.read-two in let o = k.ensures.onward in
     record {
-      same = L.sparse-is s a.from ∙ H.chain s (choose Y.sparses) Y.sparse-from k.result.word a.from k.result.end k.ensures.same ∙ next-off s (Y.sparse-from k.result.word) (pos 0) k.result.end (search rules);
+      same = L.sparse_is s a.from ∙ H.chain s (choose Y.sparses) Y.sparse_from k.result.word a.from k.result.end k.ensures.same ∙ next_off s (Y.sparse_from k.result.word) (pos 0) k.result.end (search rules);
       inside = k.ensures.inside;
       onward = k.ensures.onward;
     }
 
 returns-2 : tie.Need-returns-2
 unfolding choose among
-returns-2 c = let a = c.before.before.before.before.before.before.before.before.before.before.before.args in let s = a.s.now in let k = c.before.before.before.before.before.before.read-two in let n = c.before.before.before.number32 in let m = c.before.read_word in let v = n.result.value in let o = k.ensures.onward in let p = n.ensures.onward in let q = m.ensures.onward in let h : k.result.end ≤ length s = search rules in let w = place-past s k.result.end h in let z : to_z w32 (of_z w32 v) ≡ v = search rules in
+returns-2 c = let a = c.before.before.before.before.before.before.before.before.before.before.before.args in let s = a.s.now in let k = c.before.before.before.before.before.before.read-two in let n = c.before.before.before.number32 in let m = c.before.read_word in let v = n.result.value in let o = k.ensures.onward in let p = n.ensures.onward in let q = m.ensures.onward in let h : k.result.end ≤ length s = search rules in let w = place_past s k.result.end h in let z : to_z w32 (of_z w32 v) ≡ v = search rules in
     record {
-      same = L.sparse-is s a.from ∙ H.chain s (choose Y.sparses) Y.sparse-from k.result.word a.from k.result.end k.ensures.same
-          ∙ H.chain s Y.small Y.sparse-tail v k.result.end n.result.end (next_past s Y.small k.result.end h ∙ n.ensures.same)
+      same = L.sparse_is s a.from ∙ H.chain s (choose Y.sparses) Y.sparse_from k.result.word a.from k.result.end k.ensures.same
+          ∙ H.chain s Y.small Y.sparse_tail v k.result.end n.result.end (next_past s Y.small k.result.end h ∙ n.ensures.same)
           ∙ H.last s (choose (bytes ">|")) (λ (j : ℕ). v) m.result.word n.result.end m.result.end m.ensures.same
           ∙ ap (λ (y : ℤ). C.valued s y m.result.end) (sym z);
       inside = m.ensures.inside;

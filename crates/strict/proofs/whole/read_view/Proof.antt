@@ -31,11 +31,11 @@ read-view-spec =
     (λ c. search rules)
     (λ c. let z : to_z w32 (of_z w32 c.before.before.before.read-last.result.sparse) ≡ c.before.before.before.read-last.result.sparse = search rules in let a = c.before.before.before.before.before.before.before.before.before.before.before.before.before.before.before.before.before.before.before.args in let s = a.s.now in let t = c.before.before.before.before.before.before.before.before.before.before.before.before.before.before.before.before.read-list32 in let w = c.before.before.before.before.before.before.before.before.before.before.before.before.before.read_Walk in let m = c.before.before.before.before.before.before.before.before.before.before.before.read_mid in let v = c.before.before.before.before.before.before.before.before.read-sight in let e = c.before.before.before.read-last in
     let o1 = t.ensures.onward in let o2 = w.ensures.onward in let o3 = m.ensures.onward in let o4 = v.ensures.onward in let o5 = e.ensures.onward in let y = e.result.sparse in
-    let kd = M.kind-by (ltb a.k 32) (ltb a.k 34) in let l = row t.new.1.1.1.0 t.result.len in let g = row w.new.1.1.1.0 w.result.len in let x = Y.sighted v.new.1.1.1.0 v.new.1.1.1.1.0 v.result in let n = row e.new.1.1.1.0 e.result.map in
+    let kd = M.kind_by (ltb a.k 32) (ltb a.k 34) in let l = row t.new.1.1.1.0 t.result.len in let g = row w.new.1.1.1.0 w.result.len in let x = Y.sighted v.new.1.1.1.0 v.new.1.1.1.1.0 v.result in let n = row e.new.1.1.1.0 e.result.map in
     record {
-      same = L.view-at s kd (ltb a.k 34) (ltb a.k 34 && not (ltb a.k 32)) l t.result.end g w.result.end m.result.word m.result.end x v.result.tensor.end (Y.closed n y) e.result.end
+      same = L.view_at s kd (ltb a.k 34) (ltb a.k 34 && not (ltb a.k 32)) l t.result.end g w.result.end m.result.word m.result.end x v.result.tensor.end (Y.closed n y) e.result.end
           a.from t.ensures.same w.ensures.same m.ensures.same v.ensures.same e.ensures.same
-          ∙ (λ i. C.valued s (M.view-of (sym c.before.view-kind.ensures i) (Y.viewed l x n g (sym z i))) e.result.end);
+          ∙ (λ i. C.valued s (M.view_of (sym c.before.view-kind.ensures i) (Y.viewed l x n g (sym z i))) e.result.end);
       inside = e.ensures.inside;
       onward = omega arith;
     }))

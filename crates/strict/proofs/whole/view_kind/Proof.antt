@@ -1,6 +1,6 @@
 -- `view_kind` meets its contract: the number of the first word tells.
-use Rattle.strict.proofs.Insides.{lt-true, lt-false}
-use Rattle.strict.specs.Whole.{kind-by}
+use Rattle.strict.proofs.Insides.{lt_true, lt_false}
+use Rattle.strict.specs.Whole.{kind_by}
 use lib.Dec.{ltb}
 use mathlib.Core.Path.{sym, ap}
 use borrow.Author.Rules.{rules}
@@ -11,6 +11,6 @@ pub view-kind-spec : {M : Type 1} → statement M
 view-kind-spec =
     tie.close
     (tie.spec
-    (λ c. let k = c.before.args.k in sym (ap (λ p. kind-by p (ltb k 34)) (lt-true k 32 (search rules))))
-    (λ c. let k = c.before.before.args.k in sym (λ i. kind-by (lt-false k 32 (search rules) i) (lt-true k 34 (search rules) i)))
-    (λ c. let k = c.before.before.args.k in sym (λ i. kind-by (lt-false k 32 (search rules) i) (lt-false k 34 (search rules) i))))
+    (λ c. let k = c.before.args.k in sym (ap (λ p. kind_by p (ltb k 34)) (lt_true k 32 (search rules))))
+    (λ c. let k = c.before.before.args.k in sym (λ i. kind_by (lt_false k 32 (search rules) i) (lt_true k 34 (search rules) i)))
+    (λ c. let k = c.before.before.args.k in sym (λ i. kind_by (lt_false k 32 (search rules) i) (lt_false k 34 (search rules) i))))

@@ -1,5 +1,5 @@
 -- `peek` meets its contract: past the end the default stands.
-use Rattle.strict.proofs.Tree.{getD-out}
+use Rattle.strict.proofs.Tree.{get_d_out}
 use mathlib.Core.Path.{sym}
 use borrow.Author.Rules.{rules}
 use Rattle.strict.proofs.words.peek.Statement.{statement}
@@ -11,4 +11,4 @@ peek_spec =
     (tie.spec
     (λ c. search rules)
     (λ c. search rules)
-    (λ c. let a = c.before.args in sym (getD-out a.s.now a.at (search rules))))
+    (λ c. let a = c.before.args in sym (get_d_out a.s.now a.at (search rules))))

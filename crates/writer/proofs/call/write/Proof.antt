@@ -8,8 +8,8 @@ use lib.Dec.{lit≤}
 use lib.ListN.{length}
 use lib.Seq.{length-take-le}
 use Rattle.writer.proofs.Rooms.{put_as}
-use Rattle.writer.proofs.Ranges.{below_64, below-32}
-use Rattle.writer.proofs.Short.{Ranged, text-short}
+use Rattle.writer.proofs.Ranges.{below_64, below_32}
+use Rattle.writer.proofs.Short.{Ranged, text_short}
 use Rattle.writer.proofs.Answers as A
 use Rattle.writer.proofs.call.write.Statement.{statement}
 use Rattle.writer.proofs.call.write.Tie as tie
@@ -18,7 +18,7 @@ is-normal-requires : tie.Need-is-normal-requires
 is-normal-requires c κs = search rules
 
 returns : tie.Need-returns
-returns c = A.not-normal 8 c.before.before.before.args.r _ (sym c.before.is_normal.ensures ∙ not-true _ c.if1.true)
+returns c = A.not_normal 8 c.before.before.before.args.r _ (sym c.before.is_normal.ensures ∙ not-true _ c.if1.true)
 
 has-text-requires : tie.Need-has-text-requires
 has-text-requires c κs = search rules
@@ -42,12 +42,12 @@ put-text-requires c κs =
     let g : Ranged r = record {
       shape = λ i. search (below_64);
       strides = λ i. search (below_64);
-      tile = λ i. search (below-32);
-      map = λ i. search (below-32);
-      traversal = λ i. search (below-32);
+      tile = λ i. search (below_32);
+      map = λ i. search (below_32);
+      traversal = λ i. search (below_32);
       sparse = search rules;
     } in
-    (m, omega (arith, text-short 8 (lit≤ tt) r m g))
+    (m, omega (arith, text_short 8 (lit≤ tt) r m g))
 
 returns-3 : tie.Need-returns-3
 returns-3 c =
@@ -57,7 +57,7 @@ returns-3 c =
     let q = A.arrays (put-text-requires p.before p.put-text.lifetimes).0 in
     let n = sym h.before.before.is_normal.ensures ∙ not-false _ h.before.if1.false in
     let x = sym h.has-text.ensures ∙ not-false _ p.before.before.if2.false in
-    A.room-short 8 r (A.whole 8 r (lit≤ tt) q) _ n x (omega (arith, p.put-text.ensures))
+    A.room_short 8 r (A.whole 8 r (lit≤ tt) q) _ n x (omega (arith, p.put-text.ensures))
 
 array-share-prefix-text : tie.Need-array-share-prefix-text
 array-share-prefix-text c =

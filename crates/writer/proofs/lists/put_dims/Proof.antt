@@ -23,7 +23,7 @@ pub put-dims-spec : {M : Type 1} → statement M
 put-dims-spec =
     tie.close
     (tie.spec invariant-loop decreases-loop
-    (λ c. P.parted-none c.before.before.args.sep entry c.before.before.args.l.now _ _ c.if1.true)
+    (λ c. P.parted_none c.before.before.args.sep entry c.before.before.args.l.now _ _ c.if1.true)
     (λ c. search rules)
     (λ c κs.
     let s = c.before.before.before.before in
@@ -36,11 +36,11 @@ put-dims-spec =
     let l = s.args.l.now in
     let i : ℕ = 0 in
     let e : to_z w64 (of_z w64 (get_or l i (pos 0))) ≡ get_or l i (pos 0) = search rules in
-    (search rules, P.first-put s.args.sep entry l (search rules) s.requires (rw e at c.before.before.put-dim.ensures)))
+    (search rules, P.first_put s.args.sep entry l (search rules) s.requires (rw e at c.before.before.put-dim.ensures)))
     (λ c κs.
     let p = c.before.before in
     let s = p.before.before.before.before.before.before.before.before in
-    P.sep-fits s.args.sep entry s.args.l.now p.loop.i (search rules) p.loop.invariant.1)
+    P.sep_fits s.args.sep entry s.args.l.now p.loop.i (search rules) p.loop.invariant.1)
     (λ c. search rules)
     (λ c. search rules)
     (λ c κs.
@@ -50,7 +50,7 @@ put-dims-spec =
     let l = s.args.l.now in
     let i = p.loop.i in
     let e : to_z w64 (of_z w64 (get_or l i (pos 0))) ≡ get_or l i (pos 0) = search rules in
-    rw e (P.entry-fits s.args.sep entry l i (search rules) p.loop.invariant.1 c₁.put_byte.ensures))
+    rw e (P.entry_fits s.args.sep entry l i (search rules) p.loop.invariant.1 c₁.put_byte.ensures))
     (λ c. search rules)
     (λ c. search rules)
     (λ c.
@@ -60,7 +60,7 @@ put-dims-spec =
     let l = s.args.l.now in
     let i = p.loop.i in
     let e : to_z w64 (of_z w64 (get_or l i (pos 0))) ≡ get_or l i (pos 0) = search rules in
-    (search rules, P.entry-put s.args.sep entry l i (search rules) p.loop.invariant.1 c₁.put_byte.ensures (rw e at c.before.before.put-dim2.ensures)))
+    (search rules, P.entry_put s.args.sep entry l i (search rules) p.loop.invariant.1 c₁.put_byte.ensures (rw e at c.before.before.put-dim2.ensures)))
     (λ c. search rules)
     (λ c.
     let c₁ = c.before in
@@ -69,4 +69,4 @@ put-dims-spec =
     let l = s.args.l.now in
     let i : ℕ = 0 in
     let e : to_z w64 (of_z w64 (get_or l i (pos 0))) ≡ get_or l i (pos 0) = search rules in
-    P.all-put s.args.sep entry l (search rules) (rw e at c₂.put-dim.ensures) (P.behind-done s.args.sep entry l c₁.loop.i (search rules) c₁.loop.invariant.1)))
+    P.all_put s.args.sep entry l (search rules) (rw e at c₂.put-dim.ensures) (P.behind_done s.args.sep entry l c₁.loop.i (search rules) c₁.loop.invariant.1)))

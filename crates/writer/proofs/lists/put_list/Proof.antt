@@ -24,7 +24,7 @@ pub put-list-spec : {M : Type 1} → statement M
 put-list-spec =
     tie.close
     (tie.spec invariant-loop decreases-loop
-    (λ c. P.parted-none c.before.before.args.sep decimal c.before.before.args.l.now _ _ c.if1.true)
+    (λ c. P.parted_none c.before.before.args.sep decimal c.before.before.args.l.now _ _ c.if1.true)
     (λ c. search rules)
     (λ c κs.
     let s = c.before.before.before.before in
@@ -37,11 +37,11 @@ put-list-spec =
     let l = s.args.l.now in
     let i : ℕ = 0 in
     let e : to_z w32 (of_z w32 (get_or l i (pos 0))) ≡ get_or l i (pos 0) = search rules in
-    (search rules, P.first-put s.args.sep decimal l (search rules) s.requires (rw e at c.before.before.put_small.ensures)))
+    (search rules, P.first_put s.args.sep decimal l (search rules) s.requires (rw e at c.before.before.put_small.ensures)))
     (λ c κs.
     let p = c.before.before in
     let s = p.before.before.before.before.before.before.before.before in
-    P.sep-fits s.args.sep decimal s.args.l.now p.loop.i (search rules) p.loop.invariant.1)
+    P.sep_fits s.args.sep decimal s.args.l.now p.loop.i (search rules) p.loop.invariant.1)
     (λ c. search rules)
     (λ c. search rules)
     (λ c κs.
@@ -51,7 +51,7 @@ put-list-spec =
     let l = s.args.l.now in
     let i = p.loop.i in
     let e : to_z w32 (of_z w32 (get_or l i (pos 0))) ≡ get_or l i (pos 0) = search rules in
-    rw e (P.entry-fits s.args.sep decimal l i (search rules) p.loop.invariant.1 c₁.put_byte.ensures))
+    rw e (P.entry_fits s.args.sep decimal l i (search rules) p.loop.invariant.1 c₁.put_byte.ensures))
     (λ c. search rules)
     (λ c. search rules)
     (λ c.
@@ -61,7 +61,7 @@ put-list-spec =
     let l = s.args.l.now in
     let i = p.loop.i in
     let e : to_z w32 (of_z w32 (get_or l i (pos 0))) ≡ get_or l i (pos 0) = search rules in
-    (search rules, P.entry-put s.args.sep decimal l i (search rules) p.loop.invariant.1 c₁.put_byte.ensures (rw e at c.before.before.put-small2.ensures)))
+    (search rules, P.entry_put s.args.sep decimal l i (search rules) p.loop.invariant.1 c₁.put_byte.ensures (rw e at c.before.before.put-small2.ensures)))
     (λ c. search rules)
     (λ c.
     let c₁ = c.before in
@@ -70,4 +70,4 @@ put-list-spec =
     let l = s.args.l.now in
     let i : ℕ = 0 in
     let e : to_z w32 (of_z w32 (get_or l i (pos 0))) ≡ get_or l i (pos 0) = search rules in
-    P.all-put s.args.sep decimal l (search rules) (rw e at c₂.put_small.ensures) (P.behind-done s.args.sep decimal l c₁.loop.i (search rules) c₁.loop.invariant.1)))
+    P.all_put s.args.sep decimal l (search rules) (rw e at c₂.put_small.ensures) (P.behind_done s.args.sep decimal l c₁.loop.i (search rules) c₁.loop.invariant.1)))

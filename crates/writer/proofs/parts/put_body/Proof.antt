@@ -2,13 +2,13 @@
 use native.Mathlib.Omega.{arith}
 use borrow.Author.Rules.{rules}
 use lib.ListN.{length-append}
-use Rattle.writer.specs.Flat.{body-in}
+use Rattle.writer.specs.Flat.{body_in}
 use Rattle.writer.proofs.Rooms.{◌then◌}
 use Rattle.writer.proofs.parts.put_body.Statement.{statement}
 use Rattle.writer.proofs.parts.put_body.Tie as tie
 
 pub put-body-spec : {M : Type 1} → statement M
-unfolding body-in
+unfolding body_in
 put-body-spec =
     tie.close
     (tie.spec

@@ -4,7 +4,7 @@ use mathlib.Core.Bool.{Bool}
 use mathlib.Core.Path.{ap}
 use borrow.Author.Rules.{rules}
 use lib.ListN.{length}
-use Rattle.writer.specs.Flat.{element-text}
+use Rattle.writer.specs.Flat.{element_text}
 use Rattle.writer.proofs.Rooms.{put_as}
 use Rattle.writer.proofs.parts.put_element.Statement.{statement}
 use Rattle.writer.proofs.parts.put_element.Tie as tie
@@ -15,17 +15,17 @@ put-element-spec =
     (tie.spec
     (λ c κs.
     let c₁ = c.before.before.before in
-    omega (arith, ap length (ap (λ (b : Bool). element-text b c₁.args.e c₁.args.attribute) c.before.if1.true)))
+    omega (arith, ap length (ap (λ (b : Bool). element_text b c₁.args.e c₁.args.attribute) c.before.if1.true)))
     (λ c. search rules)
     (λ c.
     let c₁ = c.before.before.before.before in
     let c₂ = c₁.before.before in
-    put_as (ap (λ (b : Bool). element-text b c₂.args.e c₂.args.attribute) c₁.if1.true) c.before.before.put-pointer.ensures)
+    put_as (ap (λ (b : Bool). element_text b c₂.args.e c₂.args.attribute) c₁.if1.true) c.before.before.put-pointer.ensures)
     (λ c κs.
     let c₁ = c.before.before.before in
-    omega (arith, ap length (ap (λ (b : Bool). element-text b c₁.args.e c₁.args.attribute) c.before.if1.false)))
+    omega (arith, ap length (ap (λ (b : Bool). element_text b c₁.args.e c₁.args.attribute) c.before.if1.false)))
     (λ c. search rules)
     (λ c.
     let c₁ = c.before.before.before.before in
     let c₂ = c₁.before.before in
-    put_as (ap (λ (b : Bool). element-text b c₂.args.e c₂.args.attribute) c₁.if1.false) c.before.before.put-scalar.ensures))
+    put_as (ap (λ (b : Bool). element_text b c₂.args.e c₂.args.attribute) c₁.if1.false) c.before.before.put-scalar.ensures))

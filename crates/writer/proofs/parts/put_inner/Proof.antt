@@ -2,13 +2,13 @@
 use native.Mathlib.Omega.{arith}
 use borrow.Author.Rules.{rules}
 use lib.ListN.{length-append}
-use Rattle.writer.specs.Flat.{inner-in}
+use Rattle.writer.specs.Flat.{inner_in}
 use Rattle.writer.proofs.Rooms.{◌then◌}
 use Rattle.writer.proofs.parts.put_inner.Statement.{statement}
 use Rattle.writer.proofs.parts.put_inner.Tie as tie
 
 pub put-inner-spec : {M : Type 1} → statement M
-unfolding inner-in
+unfolding inner_in
 put-inner-spec =
     tie.close
     (tie.spec

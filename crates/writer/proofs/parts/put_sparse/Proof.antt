@@ -5,13 +5,13 @@ use borrow.Author.Rules.{rules}
 use lib.ListN.{length-append}
 use mir.Syntax.{w32}
 use mir.Val.{to_z, of_z}
-use Rattle.writer.specs.Flat.{sparse-text}
+use Rattle.writer.specs.Flat.{sparse_text}
 use Rattle.writer.proofs.Rooms.{◌then◌}
 use Rattle.writer.proofs.parts.put_sparse.Statement.{statement}
 use Rattle.writer.proofs.parts.put_sparse.Tie as tie
 
 pub put-sparse-spec : {M : Type 1} → statement M
-unfolding sparse-text
+unfolding sparse_text
 put-sparse-spec =
     tie.close
     (tie.spec

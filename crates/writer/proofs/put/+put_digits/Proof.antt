@@ -5,7 +5,7 @@ use native.Mathlib.Omega.{arith}
 use borrow.Author.Rules.{rules}
 use borrow.Fn.Kinds.{In}
 use borrow.Fn.PlainCycle.{Measures, is, falls, and}
-use Rattle.writer.proofs.Digits.{put_one, put-more, room-one, room-more}
+use Rattle.writer.proofs.Digits.{put_one, put_more, room_one, room_more}
 use Rattle.writer.proofs.put.put_digits.Reads as put-digits
 use Rattle.writer.proofs.put.put_digits.Kinds as put-digits-kinds
 use Rattle.writer.proofs.put.+put_digits.Lts-put_digits as put-digits-lts
@@ -34,20 +34,20 @@ pub +put-digits-spec : {M : Type 1} → statement M
     (put-digits-at t)
     put-digits.Post
     (λ c κs. search rules)
-    (λ c. omega (arith, room-one _ _ _ c.before.if1.true c.before.before.before.requires.1))
-    (λ c. omega (arith, room-one _ _ _ c.before.if1.true c.before.before.before.requires.1))
+    (λ c. omega (arith, room_one _ _ _ c.before.if1.true c.before.before.before.requires.1))
+    (λ c. omega (arith, room_one _ _ _ c.before.if1.true c.before.before.before.requires.1))
     (λ c. search rules)
     (λ c. put_one c.before.if1.true c.digit.ensures)
     (λ c κs.
     let s = c.before.before.before in
     let e = div-add-mod s.args.n 10 in
-    (omega arith, omega (arith, room-more _ _ _ c.before.if1.false s.requires.1)))
+    (omega arith, omega (arith, room_more _ _ _ c.before.if1.false s.requires.1)))
     (λ c κs. mod-lt _ (zero-lt-suc 9))
     (λ c.
     let p = c.before.before.before.before in
-    omega (arith, c.before.before.before.put-digits.ensures, room-more _ _ _ p.before.if1.false p.before.before.before.requires.1))
+    omega (arith, c.before.before.before.put-digits.ensures, room_more _ _ _ p.before.if1.false p.before.before.before.requires.1))
     (λ c.
     let p = c.before.before.before.before in
-    omega (arith, c.before.before.before.put-digits.ensures, room-more _ _ _ p.before.if1.false p.before.before.before.requires.1))
+    omega (arith, c.before.before.before.put-digits.ensures, room_more _ _ _ p.before.if1.false p.before.before.before.requires.1))
     (λ c. search rules)
-    (λ c. put-more c.before.before.before.before.before.if1.false c.before.before.before.put-digits.ensures c.digit2.ensures)
+    (λ c. put_more c.before.before.before.before.before.if1.false c.before.before.before.put-digits.ensures c.digit2.ensures)

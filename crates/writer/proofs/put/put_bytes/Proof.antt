@@ -2,7 +2,7 @@
 use Prim.Native.Nat.{◌+◌, ◌-◌, ◌≤◌}
 use borrow.Author.Rules.{rules}
 use lib.ListN.{length, drop}
-use Rattle.writer.proofs.Rooms.{copy_start, copy_step, copy-end, Left}
+use Rattle.writer.proofs.Rooms.{copy_start, copy_step, copy_end, Left}
 use Rattle.writer.proofs.put.put_bytes.Statement.{statement}
 use Rattle.writer.proofs.put.put_bytes.Tie as tie
 
@@ -25,4 +25,4 @@ put-bytes-spec =
     (λ c. (search rules, copy_step (search rules) c.before.before.loop.invariant.1))
     (λ c. search rules)
     (λ c. search rules)
-    (λ c. copy-end (search rules) c.before.loop.invariant.1))
+    (λ c. copy_end (search rules) c.before.loop.invariant.1))

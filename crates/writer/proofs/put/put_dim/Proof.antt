@@ -15,17 +15,17 @@ put-dim-spec =
     (λ c κs. search rules)
     (λ c κs.
     let s = c.before.before.before.before in
-    omega (arith, ap length (L.is-dynamic s.args.z s.ranges.z c.before.before.is-dynamic.ensures c.before.if1.true)))
+    omega (arith, ap length (L.is_dynamic s.args.z s.ranges.z c.before.before.is_dynamic.ensures c.before.if1.true)))
     (λ c. search rules)
     (λ c.
     let p = c.before.before.before.before in
     let s = p.before.before.before in
-    put_as (L.is-dynamic s.args.z s.ranges.z p.before.is-dynamic.ensures p.if1.true) c.before.before.put_byte.ensures)
+    put_as (L.is_dynamic s.args.z s.ranges.z p.before.is_dynamic.ensures p.if1.true) c.before.before.put_byte.ensures)
     (λ c κs.
     let s = c.before.before.before.before in
-    omega (arith, ap length (L.is_known s.args.z s.ranges.z c.before.before.is-dynamic.ensures c.before.if1.false)))
+    omega (arith, ap length (L.is_known s.args.z s.ranges.z c.before.before.is_dynamic.ensures c.before.if1.false)))
     (λ c. search rules)
     (λ c.
     let p = c.before.before.before.before in
     let s = p.before.before.before in
-    put_as (L.is_known s.args.z s.ranges.z p.before.is-dynamic.ensures p.if1.false) c.before.before.put-number.ensures))
+    put_as (L.is_known s.args.z s.ranges.z p.before.is_dynamic.ensures p.if1.false) c.before.before.put-number.ensures))

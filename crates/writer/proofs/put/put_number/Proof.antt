@@ -16,20 +16,20 @@ put-number-spec =
     (λ c κs.
     let n = c.before.before in
     let s = n.before.before in
-    omega (arith, ap length (L.is-minus s.args.z s.ranges.z n.is_negative.ensures c.before.if1.true refl)))
+    omega (arith, ap length (L.is_minus s.args.z s.ranges.z n.is_negative.ensures c.before.if1.true refl)))
     (λ c κs. search rules)
     (λ c κs.
     let p = c.before.before.before.before in
     let n = p.before.before.before in
     let s = n.before.before in
-    omega (arith, p.put_byte.ensures, ap length (L.is-minus s.args.z s.ranges.z n.is_negative.ensures p.before.before.if1.true c.magnitude.ensures)))
+    omega (arith, p.put_byte.ensures, ap length (L.is_minus s.args.z s.ranges.z n.is_negative.ensures p.before.before.if1.true c.magnitude.ensures)))
     (λ c. search rules)
     (λ c.
     let m = c.before.before.before in
     let p = m.before.before.before.before in
     let n = p.before.before.before in
     let s = n.before.before in
-    put_as (L.is-minus s.args.z s.ranges.z n.is_negative.ensures p.before.before.if1.true m.magnitude.ensures) (p.put_byte.ensures
+    put_as (L.is_minus s.args.z s.ranges.z n.is_negative.ensures p.before.before.if1.true m.magnitude.ensures) (p.put_byte.ensures
     then c.before.before.put-digits.ensures))
     (λ c κs. search rules)
     (λ c κs.

@@ -7,17 +7,17 @@ use Rattle.lexis.specs.Text.{Text}
 use Rattle.meaning.specs.declared.Kind.{Kind}
 use Rattle.meaning.specs.declared.Record.{Record}
 use Rattle.writer.specs.Room.{Put}
-use Rattle.writer.specs.Flat.{rest-as}
+use Rattle.writer.specs.Flat.{rest_as}
 use Rattle.writer.proofs.Rooms.{nothing}
 use Rattle.writer.proofs.text.put_rest.Statement.{statement}
 use Rattle.writer.proofs.text.put_rest.Tie as tie
 
 module _ (r : Record) {k l : Kind} (e : k ≡ l) where
-  room : (a : ℕ) {n : ℕ} → a + length (rest-as k r) ≤ n → a + length (rest-as l r) ≤ n
-  room a {n} h = subst (λ (j : Kind). a + length (rest-as j r) ≤ n) e h
+  room : (a : ℕ) {n : ℕ} → a + length (rest_as k r) ≤ n → a + length (rest_as l r) ≤ n
+  room a {n} h = subst (λ (j : Kind). a + length (rest_as j r) ≤ n) e h
 
-  is : {s t : Text} {a b : ℕ} → Put s a (rest-as l r) t b → Put s a (rest-as k r) t b
-  is {s} {t} {a} {b} p = subst (λ (j : Kind). Put s a (rest-as j r) t b) (sym e) p
+  is : {s t : Text} {a b : ℕ} → Put s a (rest_as l r) t b → Put s a (rest_as k r) t b
+  is {s} {t} {a} {b} p = subst (λ (j : Kind). Put s a (rest_as j r) t b) (sym e) p
 
 pub put-rest-spec : {M : Type 1} → statement M
 put-rest-spec =
