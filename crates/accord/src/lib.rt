@@ -1,1 +1,2 @@
 // Theorems alone: what the readers and the writer say of one text.
+#![tactic(auto)]

@@ -1,1 +1,2 @@
 // Theorems alone: the definition of the ordinary reading, computed on recorded texts, gives the Rust's answers.
+#![tactic(auto)]

@@ -1,4 +1,6 @@
 // Trimming and byte search: what the readers stand on. Nothing here knows a type.
+#![tactic(auto)]
+
 mod blocks;
 mod text;
 

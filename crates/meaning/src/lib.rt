@@ -1,4 +1,5 @@
 // Types as records and what the calls answer, as plain data by value (01, "Records and numbers").
+#![tactic(auto)]
 mod normal;
 mod refused;
 

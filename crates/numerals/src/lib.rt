@@ -1,4 +1,5 @@
 // Numerals of 32 and 64 bits, and the parts of a list that are such.
+#![tactic(auto)]
 mod numeral;
 mod part;
 

@@ -1,4 +1,5 @@
 // The port of types.rs (01, modules 3 to 7): what `Type::parse` returns, with the default counts. Names are those of types.rs.
+#![tactic(auto)]
 mod anchors;
 mod brackets;
 mod inner;

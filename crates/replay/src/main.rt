@@ -1,5 +1,6 @@
 // Reads the recorded list (data/list1.txt and on), runs the ordinary reader on each of its texts, and compares what it answers with the recorded answer.
 // Each type that was read is then written, and its text read again.
+#![tactic(auto)]
 mod back;
 mod render;
 mod row;

@@ -1,4 +1,5 @@
 // Counts a sheet of type texts, one a row, from standard input (02, C-11).
+#![tactic(auto)]
 mod say;
 mod words;
 

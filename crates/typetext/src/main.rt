@@ -1,4 +1,5 @@
 // The readers and the writer at a terminal. The first word that is printed decides: accepted, refused or usage.
+#![tactic(auto)]
 mod counts;
 mod help;
 mod lists;

@@ -1,4 +1,5 @@
 // The text of a record, laid at the front of a room (01, "Written text").
+#![tactic(auto)]
 mod call;
 mod has_text;
 mod lists;
