@@ -1,5 +1,6 @@
 // Numerals of 32 and 64 bits, and the parts of a list that are such.
 #![tactic(auto)]
+
 mod numeral;
 mod part;
 
