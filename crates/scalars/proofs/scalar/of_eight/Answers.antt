@@ -9,8 +9,5 @@ use Rattle.scalars.proofs.scalar.of_eight.Goals as goal
 abbrev table : Text
 table = bytes "f8E4M3FNf8e4m3fnf4E2M1FNf4e2m1fn"
 
-pub returns-in-0 : goal.returns-in-0
-returns-in-0 c = L.unnamed 8 c.args.name.now table refl c.requires c.which.ensures (omega arith)
-
-pub returns-in-2 : goal.returns-in-2
-returns-in-2 c = L.either 8 c.args.name.now table refl c.requires c.which.ensures 0 (search rules) (search rules) refl
+pub returns-in_default : goal.returns-in_default
+returns-in_default c = L.unnamed 8 c.args.name.now table refl c.requires c.which.ensures (omega arith)

@@ -9,8 +9,5 @@ use Rattle.scalars.proofs.scalar.of_nine.Goals as goal
 abbrev table : Text
 table = bytes "f8E8M0FNUf8e8m0fnuf8E5M3FNUf8e5m3fnu"
 
-pub returns-in-0 : goal.returns-in-0
-returns-in-0 c = L.unnamed 9 c.args.name.now table refl c.requires c.which.ensures (omega arith)
-
-pub returns-in-2 : goal.returns-in-2
-returns-in-2 c = L.either 9 c.args.name.now table refl c.requires c.which.ensures 0 (search rules) (search rules) refl
+pub returns-in_default : goal.returns-in_default
+returns-in_default c = L.unnamed 9 c.args.name.now table refl c.requires c.which.ensures (omega arith)

@@ -8,5 +8,5 @@ use Rattle.scalars.proofs.scalar.of_six.Goals as goal
 abbrev table : Text
 table = bytes "f8E5M2f8e5m2"
 
-pub returns : goal.returns
-returns c = L.unnamed 6 c.args.name.now table refl c.requires c.which.ensures (omega arith)
+pub returns-in_default : goal.returns-in_default
+returns-in_default c = L.unnamed 6 c.args.name.now table refl c.requires c.which.ensures (omega arith)

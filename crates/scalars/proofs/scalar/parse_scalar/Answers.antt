@@ -1,6 +1,7 @@
 -- `parse_scalar` meets its contract: what the trimmed text names stands among the names of its own length.
 use Rattle.scalars.proofs.Naming as L
 use mathlib.Core.Path.{◌∙◌}
+use native.Mathlib.Omega.{arith}
 use Rattle.scalars.proofs.scalar.parse_scalar.Goals as goal
 
 pub returns-in-2 : goal.returns-in-2
@@ -22,5 +23,6 @@ pub returns-in-9 : goal.returns-in-9
 returns-in-9 c = c.of_nine.ensures ∙ L.trimmed _ _ c.trim-name.ensures
 
 pub returns-in_default : goal.returns-in_default
-returns-in_default c = let r = c.in-2.rest in
-    L.no_length c.trim-name.result.now r.0.0.0.0.0.1 r.0.0.0.0.1 r.0.0.0.1 r.0.0.1 r.0.1 r.1 ∙ L.trimmed _ _ c.trim-name.ensures
+returns-in_default c =
+    L.no_length c.trim-name.result.now (λ e. omega arith) (λ e. omega arith) (λ e. omega arith) (λ e. omega arith) (λ e. omega arith) (λ e. omega arith)
+    ∙ L.trimmed _ _ c.trim-name.ensures
