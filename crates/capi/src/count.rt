@@ -7,7 +7,7 @@ use sheet::{LIMIT, Totals};
 
 // Totals in numbers.
 #[repr(C)]
-#[derive(Drop)]
+#[derive(Clone, Copy)]
 pub struct TypetextTotals {
     pub rows: usize,
     pub accepted: usize,
@@ -24,7 +24,7 @@ pub struct TypetextTotals {
 
 // Where a row lies.
 #[repr(C)]
-#[derive(Drop)]
+#[derive(Clone, Copy)]
 pub struct TypetextRow {
     pub first: usize,
     pub end: usize,

@@ -6,7 +6,7 @@ use numbers::TypetextRecord;
 
 // The writer's answer in numbers.
 #[repr(C)]
-#[derive(Drop)]
+#[derive(Clone, Copy)]
 pub struct TypetextWritten {
     pub len: usize,
     pub refusal: u8,

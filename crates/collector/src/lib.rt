@@ -14,7 +14,7 @@ use values::{answer, ended, fed, verdict};
 pub const SIZE: usize = 1024;
 
 // The bytes so far, their number, and whether they were too many.
-#[derive(Drop)]
+#[derive(Clone, Copy)]
 pub struct Collector {
     pub bytes: [u8; SIZE],
     pub len: usize,
@@ -22,7 +22,7 @@ pub struct Collector {
 }
 
 // What a piece is answered.
-#[derive(Drop)]
+#[derive(Clone, Copy)]
 pub enum Fed {
     Taken,
     NotInOrder,

@@ -58,7 +58,7 @@ fn clear(bytes: &mut [u8])
 }
 
 // The number and the mark, beside the bytes.
-#[derive(Drop)]
+#[derive(Clone, Copy)]
 pub(crate) struct Marks {
     pub(crate) len: usize,
     pub(crate) over: bool,

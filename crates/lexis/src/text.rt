@@ -6,7 +6,7 @@ ghost use Rattle.lexis.specs.Text.{less_leading, less_trailing, white, trim};
 use super::blocks::seek;
 
 // Where a text first occurs.
-#[derive(Drop)]
+#[derive(Clone, Copy)]
 pub enum Found {
     At(usize),
     Nowhere,

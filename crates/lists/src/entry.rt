@@ -10,13 +10,13 @@ use numerals::{Number32, Number64};
 // A dimension or stride whose size is not statically known.
 pub const DYNAMIC: i64 = -9223372036854775808;
 
-#[derive(Drop)]
+#[derive(Clone, Copy)]
 pub enum Entry64 {
     Read(i64),
     Fell(i64),
 }
 
-#[derive(Drop)]
+#[derive(Clone, Copy)]
 pub enum Entry32 {
     Read(i32),
     Fell(i32),

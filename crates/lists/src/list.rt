@@ -13,21 +13,21 @@ use super::row::{Row, Tally, tick};
 use meaning::CAP;
 
 // A list of 64-bit entries: the first of them in an array, and what is told of all.
-#[derive(Drop)]
+#[derive(Clone, Copy)]
 pub struct List64 {
     pub values: [i64; CAP],
     pub row: Row,
 }
 
 // The same of 32-bit entries.
-#[derive(Drop)]
+#[derive(Clone, Copy)]
 pub struct List32 {
     pub values: [i32; CAP],
     pub row: Row,
 }
 
 // Dimensions, and where what follows the last of them begins.
-#[derive(Drop)]
+#[derive(Clone, Copy)]
 pub struct Front {
     pub dims: List64,
     pub last: usize,

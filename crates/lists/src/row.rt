@@ -5,13 +5,13 @@ ghost use Rattle.lists.specs.Laid.{row};
 ghost use Rattle.lists.specs.Push.{ticked, filled_row};
 
 // What is told of the entries that fell back: how many they are.
-#[derive(Drop)]
+#[derive(Clone, Copy)]
 pub struct Tally {
     pub fell: usize,
 }
 
 // How many entries there are, whether their clause stands or was filled in, and the tally.
-#[derive(Drop)]
+#[derive(Clone, Copy)]
 pub struct Row {
     pub len: usize,
     pub stood: bool,

@@ -1,5 +1,6 @@
 // Types as records and what the calls answer, as plain data by value (01, "Records and numbers").
 #![tactic(auto)]
+
 mod normal;
 mod refused;
 
@@ -14,7 +15,7 @@ use scalars::Scalar;
 pub const CAP: usize = 8;
 
 // The kinds of a type.
-#[derive(Drop)]
+#[derive(Clone, Copy)]
 pub enum Kind {
     Scalar,
     Pointer,
@@ -27,7 +28,7 @@ pub enum Kind {
 }
 
 // A view's padding, or none.
-#[derive(Drop)]
+#[derive(Clone, Copy)]
 pub enum Padding {
     Absent,
     Zero,
@@ -38,7 +39,7 @@ pub enum Padding {
 }
 
 // A type, flat: five lists, each an array and a length. The fields stand as they cross to C (`numbers`), so that nothing is moved there.
-#[derive(Drop)]
+#[derive(Clone, Copy)]
 pub struct Record {
     pub shape_len: usize,
     pub strides_len: usize,
@@ -59,7 +60,7 @@ pub struct Record {
 }
 
 // Why a call refused, or that it accepted.
-#[derive(Drop)]
+#[derive(Clone, Copy)]
 pub enum Refusal {
     Accepted,
     TooLong,
@@ -92,7 +93,7 @@ impl Refusal {
 }
 
 // How often an ordinary reading took a default: the counts (a) to (d).
-#[derive(Drop)]
+#[derive(Clone, Copy)]
 pub struct Note {
     pub a: usize,
     pub b: usize,
@@ -101,7 +102,7 @@ pub struct Note {
 }
 
 // What a reader answers.
-#[derive(Drop)]
+#[derive(Clone, Copy)]
 pub struct Reading {
     pub value: Record,
     pub place: usize,
@@ -110,7 +111,7 @@ pub struct Reading {
 }
 
 // What the writer answers.
-#[derive(Drop)]
+#[derive(Clone, Copy)]
 pub struct Written {
     pub refusal: Refusal,
     pub len: usize,

@@ -8,7 +8,7 @@ use crate::{CAP, Kind, Padding, Record};
 use scalars::Scalar;
 
 // What a kind uses; the attribute flag all do.
-#[derive(Drop)]
+#[derive(Clone, Copy)]
 struct Uses {
     element: bool,
     pointer: bool,

@@ -12,7 +12,7 @@ pub use sent::{Sent, of_numbers};
 
 // A record in numbers, as a caller may send it.
 #[repr(C)]
-#[derive(Drop)]
+#[derive(Clone, Copy)]
 pub struct TypetextRecord {
     pub shape_len: usize,
     pub strides_len: usize,
@@ -34,7 +34,7 @@ pub struct TypetextRecord {
 
 // A note in numbers: one struct, so that what it tells more later grows here alone.
 #[repr(C)]
-#[derive(Drop)]
+#[derive(Clone, Copy)]
 pub struct TypetextNote {
     pub a: usize,
     pub b: usize,
@@ -44,7 +44,7 @@ pub struct TypetextNote {
 
 // A reading in numbers; its value can be handed to the writer as it is.
 #[repr(C)]
-#[derive(Drop)]
+#[derive(Clone, Copy)]
 pub struct TypetextReading {
     pub value: TypetextRecord,
     pub place: usize,

@@ -7,7 +7,7 @@ use meaning::{Kind, Padding, Record};
 use scalars::Scalar;
 
 // What a caller sent: a record, or numbers that are no record's; the value is then blank.
-#[derive(Drop)]
+#[derive(Clone, Copy)]
 pub struct Sent {
     pub known: bool,
     pub value: Record,

@@ -4,28 +4,28 @@ ghost use Rattle.numerals.specs.Numeral.{number, minus, numeral, said64, said32}
 ghost use Rattle.numerals.specs.Parts.{under, positive, negative, sized};
 
 // What a text says as a numeral of 64 bits.
-#[derive(Drop)]
+#[derive(Clone, Copy)]
 pub enum Number64 {
     Value(i64),
     Unreadable,
 }
 
 // The same at 32 bits.
-#[derive(Drop)]
+#[derive(Clone, Copy)]
 pub enum Number32 {
     Value(i32),
     Unreadable,
 }
 
 // What digits write.
-#[derive(Drop)]
+#[derive(Clone, Copy)]
 enum Magnitude {
     Of(u64),
     NoDigits,
 }
 
 // A magnitude with its sign.
-#[derive(Drop)]
+#[derive(Clone, Copy)]
 enum Size {
     Plus(u64),
     Minus(u64),

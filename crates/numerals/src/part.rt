@@ -8,14 +8,14 @@ use super::numeral::{Number32, Number64, minus32, minus64, parse_i32, parse_i64,
 use lexis::{seek, trim, until, white};
 
 // What a trimmed part is as a numeral of 64 bits, and how long the part is.
-#[derive(Drop)]
+#[derive(Clone, Copy)]
 pub struct Part64 {
     pub value: Number64,
     pub len: usize,
 }
 
 // The same at 32 bits.
-#[derive(Drop)]
+#[derive(Clone, Copy)]
 pub struct Part32 {
     pub value: Number32,
     pub len: usize,
@@ -23,7 +23,7 @@ pub struct Part32 {
 
 // A part that begins with digits, and where it ends: they are all of it and write a number, or a byte after them makes it
 // unreadable.
-#[derive(Drop)]
+#[derive(Clone, Copy)]
 enum Walked {
     Of(u64, usize),
     Odd(usize),

@@ -8,7 +8,7 @@ use super::keys::{Places, none_yet};
 use super::survey::survey_content;
 
 // Whether a form applies, how long its content is then, and the first places of the keywords in it.
-#[derive(Drop)]
+#[derive(Clone, Copy)]
 pub(crate) struct Applied {
     pub(crate) applies: bool,
     pub(crate) len: usize,

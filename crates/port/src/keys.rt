@@ -5,7 +5,7 @@ ghost use Rattle.port.specs.Keys.{Behind, Sights};
 
 // Where each keyword first stands; a number that is no place in the text says nowhere. `plain` is that of `tensor_view<` in what follows
 // `tile=(`.
-#[derive(Drop)]
+#[derive(Clone, Copy)]
 pub struct Places {
     pub ptr: usize,
     pub spaced: usize,

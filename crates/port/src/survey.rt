@@ -8,7 +8,7 @@ use super::anchors::seek_hot;
 use super::keys::{Places, none_yet, sighted};
 
 // Where a content ends, or the text's length, and the places in what stands before.
-#[derive(Drop)]
+#[derive(Clone, Copy)]
 pub struct Scanning {
     pub end: usize,
     pub places: Places,

@@ -14,7 +14,7 @@ use meaning::{Kind, Reading, Refusal, refuse};
 use scalars::{Named, Scalar};
 
 // A tensor view's parts, where there is one.
-#[derive(Drop)]
+#[derive(Clone, Copy)]
 pub struct Tensor {
     pub found: bool,
     pub element: Scalar,

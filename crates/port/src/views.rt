@@ -21,7 +21,7 @@ use lists::List32;
 use meaning::{Kind, Padding, Reading, Refusal, refuse};
 
 // The tile shape, and where what follows its `)` begins.
-#[derive(Drop)]
+#[derive(Clone, Copy)]
 pub struct TileShape {
     pub found: bool,
     pub tile: List32,
@@ -29,7 +29,7 @@ pub struct TileShape {
 }
 
 // What the three views share.
-#[derive(Drop)]
+#[derive(Clone, Copy)]
 pub struct View {
     pub found: bool,
     pub tile: List32,
@@ -38,7 +38,7 @@ pub struct View {
 }
 
 // A list that runs to the next `]`: where it begins and ends.
-#[derive(Drop)]
+#[derive(Clone, Copy)]
 pub enum Closed {
     Absent,
     Unclosed,

@@ -4,7 +4,7 @@ use super::row::prefix;
 use meaning::{Note, Reading, Record, Refusal};
 
 // What became of it; nothing for a refused text.
-#[derive(Drop)]
+#[derive(Clone, Copy)]
 pub struct Back {
     pub written: bool,
     pub no_text: bool,

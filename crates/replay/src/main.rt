@@ -7,7 +7,7 @@ mod row;
 
 // How many rows were read, and how many of them differ; how many types have a text and how many have none, and how many
 // were not returned by reading it.
-#[derive(Drop)]
+#[derive(Clone, Copy)]
 struct Totals {
     rows: u64,
     differ: u64,

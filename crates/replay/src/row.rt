@@ -87,7 +87,7 @@ fn show(what: &[u8], row: &[u8], answer: &[u8]) {
 }
 
 // Whether the reader answers as the row says, and what became of the type.
-#[derive(Drop)]
+#[derive(Clone, Copy)]
 pub struct Tried {
     pub same: bool,
     pub back: Back,

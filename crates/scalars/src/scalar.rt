@@ -6,7 +6,7 @@ ghost use Rattle.scalars.specs.Rows.{rows, which};
 use lexis::{begins, trim};
 
 // Scalar (element) types: integers and floats.
-#[derive(Drop)]
+#[derive(Clone, Copy)]
 pub enum Scalar {
     I1,
     I4,
@@ -27,7 +27,7 @@ pub enum Scalar {
 }
 
 // What a text names.
-#[derive(Drop)]
+#[derive(Clone, Copy)]
 pub enum Named {
     Is(Scalar),
     Unknown,

@@ -15,7 +15,7 @@ use sums::{added, answer, none, tell};
 pub const LIMIT: usize = 65536;
 
 // Whether a sheet was counted.
-#[derive(Drop)]
+#[derive(Clone, Copy)]
 pub enum Counted {
     Whole,
     TooLong,
@@ -34,7 +34,7 @@ impl Counted {
 }
 
 // Where the next row lies: its first byte, its end, and the place behind its line feed; or that there is none.
-#[derive(Drop)]
+#[derive(Clone, Copy)]
 pub struct Cut {
     pub found: bool,
     pub first: usize,
@@ -43,7 +43,7 @@ pub struct Cut {
 }
 
 // A walker: the sheet that it stands on, and its place there.
-#[derive(Drop)]
+#[derive(Clone, Copy)]
 pub struct Walker<'a> {
     pub sheet: &'a [u8],
     pub place: usize,

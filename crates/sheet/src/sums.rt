@@ -8,7 +8,7 @@ use crate::{Counted, LIMIT};
 use meaning::Note;
 
 // The totals over the rows: how many, how many of each answer, and the default counts.
-#[derive(Drop)]
+#[derive(Clone, Copy)]
 pub struct Totals {
     pub answer: Counted,
     pub rows: usize,
@@ -24,7 +24,7 @@ pub struct Totals {
 }
 
 // What of a row's reading is counted: the refusal's number, 0 where it is accepted, and the default counts.
-#[derive(Drop)]
+#[derive(Clone, Copy)]
 pub(crate) struct Told {
     number: u8,
     note: Note,

@@ -10,7 +10,7 @@ use super::middles::read_open;
 use super::names::{read_core_name, read_name};
 use super::words::{fork, read_two, read_word};
 
-#[derive(Drop)]
+#[derive(Clone, Copy)]
 pub(crate) struct Core {
     pub(crate) pointer: bool,
     pub(crate) word: usize,
@@ -18,13 +18,13 @@ pub(crate) struct Core {
     pub(crate) end: usize,
 }
 
-#[derive(Drop)]
+#[derive(Clone, Copy)]
 pub(crate) struct Tile {
     pub(crate) rank: usize,
     pub(crate) core: Core,
 }
 
-#[derive(Drop)]
+#[derive(Clone, Copy)]
 struct Rest {
     len: usize,
     marked: bool,
@@ -32,7 +32,7 @@ struct Rest {
 }
 
 // The rank, the name, and the number of strides.
-#[derive(Drop)]
+#[derive(Clone, Copy)]
 pub(crate) struct Tensor {
     pub(crate) rank: usize,
     pub(crate) word: usize,

@@ -13,7 +13,7 @@ use super::number::{Num64, number32, read_dim, space};
 use super::words::{peek, read_word};
 
 // How many entries were read, with the end.
-#[derive(Drop)]
+#[derive(Clone, Copy)]
 pub(crate) struct Listed {
     pub(crate) len: usize,
     pub(crate) end: usize,

@@ -15,25 +15,25 @@ pub(crate) fn stuck(s: &[u8], at: usize) -> usize
     s.len() + 1 + at
 }
 
-#[derive(Drop)]
+#[derive(Clone, Copy)]
 struct Grown {
     value: u64,
     at: usize,
 }
 
-#[derive(Drop)]
+#[derive(Clone, Copy)]
 struct Mag {
     value: u64,
     end: usize,
 }
 
-#[derive(Drop)]
+#[derive(Clone, Copy)]
 pub(crate) struct Num32 {
     pub(crate) value: i32,
     pub(crate) end: usize,
 }
 
-#[derive(Drop)]
+#[derive(Clone, Copy)]
 pub(crate) struct Num64 {
     pub(crate) value: i64,
     pub(crate) end: usize,

@@ -13,7 +13,7 @@ use super::number::{Num32, number32};
 use super::words::{read_two, read_word};
 
 // A tensor view, and the padding before it by its number.
-#[derive(Drop)]
+#[derive(Clone, Copy)]
 pub(crate) struct Sight {
     pub(crate) padded: bool,
     pub(crate) pad: usize,
@@ -21,7 +21,7 @@ pub(crate) struct Sight {
 }
 
 // The end of a view: how many entries its map has, and its sparse dimension.
-#[derive(Drop)]
+#[derive(Clone, Copy)]
 pub(crate) struct Last {
     pub(crate) map: usize,
     pub(crate) sparse: i32,

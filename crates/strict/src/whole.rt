@@ -13,7 +13,7 @@ use super::view::{read_last, read_sight, read_walk};
 use meaning::Kind;
 
 // A type of any rank: a scalar and a padding by their numbers, and how many entries its lists have.
-#[derive(Drop)]
+#[derive(Clone, Copy)]
 pub(crate) struct Whole {
     pub(crate) kind: Kind,
     pub(crate) pointer: bool,

@@ -7,7 +7,7 @@ ghost use Rattle.strict.specs.Words.{next, among, differ, ended, both};
 use super::number::stuck;
 
 // The number of a word in its table, with the place after it.
-#[derive(Drop)]
+#[derive(Clone, Copy)]
 pub(crate) struct Picked {
     pub(crate) word: usize,
     pub(crate) end: usize,

@@ -3,7 +3,7 @@ use super::help::{help, synopsis};
 use super::say::{say, say_plainly};
 use super::text::prefix;
 
-#[derive(Drop)]
+#[derive(Clone, Copy)]
 pub enum Task {
     Read,
     Strict,
@@ -12,7 +12,7 @@ pub enum Task {
 }
 
 // What is to be done with argument `at`, or with standard input where that is 0; nothing where it isn't understood.
-#[derive(Drop)]
+#[derive(Clone, Copy)]
 pub struct Asked {
     pub understood: bool,
     pub task: Task,

@@ -9,7 +9,7 @@ use meaning::{Kind, Padding};
 use scalars::Scalar;
 
 // Where a text lies in a table of texts, one behind the other.
-#[derive(Drop)]
+#[derive(Clone, Copy)]
 struct Span {
     from: usize,
     len: usize,
