@@ -1,5 +1,6 @@
 // Entries and lists of a type, read into arrays: the first entries up to the capacity, and a row: their true number, how they came.
 #![tactic(auto)]
+
 mod entry;
 mod fill;
 mod list;

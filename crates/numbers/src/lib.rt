@@ -1,6 +1,7 @@
 // Readings and records in numbers, as they cross to C (docs/ABI.md): kinds, scalars and paddings in document 01's order. Here to numbers; back
 // in `sent`.
 #![tactic(auto)]
+
 mod sent;
 
 ghost use Rattle.std.specs.Prelude.{◌≡◌};

@@ -1,27 +1,22 @@
 -- One value more: stored where there is room; past the end storing changes nothing.
 use borrow.Author.Rules.{rules}
 use mathlib.Core.Path.{◌≡◌, sym, ap, ◌∙◌}
-use mathlib.Core.Logic.{⊎_elim}
 use mathlib.Core.List.{List}
 use Prim.Native.Nat.{◌+◌}
 use native.Mathlib.Omega.{arith}
 use lib.IntN.{ℤ}
 use lib.ListN.{set, length}
 use lib.Seq.{set_out}
-use mir.Syntax.{w64}
+use mir.Syntax.{w32}
 use mir.Val.{to_z, of_z}
 use Rattle.lists.specs.Laid.{Laid}
-use Rattle.lists.proofs.list.put64.Statement.{statement}
-use Rattle.lists.proofs.list.put64.Tie as tie
+use Rattle.lists.proofs.list.put32.Goals as goal
+use Rattle.lists.proofs.list.put32.Goals.{then-n-lt-CAP, else-n-lt-CAP}
 
-returns : tie.Need-returns
+pub returns : goal.returns
 returns c =
-    let a = c.before.before.before.args in
+    let a = c.args in
     let h : length a.l.values ≡ 8 = search rules in
-    let z : to_z w64 (of_z w64 a.v) ≡ a.v = search rules in
+    let z : to_z w32 (of_z w32 a.v) ≡ a.v = search rules in
     ap {B = Laid} (λ (v : List ℤ). record { values = v; row = record { len = a.l.row.len + 1; stood = a.l.row.stood; tally = a.tally } })
-    (⊎_elim (λ w. w.1 ∙ ap (set a.l.values a.l.row.len) z) (λ w. w.1 ∙ sym (set_out a.l.values a.l.row.len a.v (omega arith)))
-    c.if1.branch)
-
-pub put64-spec : {M : Type 1} → statement M
-put64-spec = tie.close (tie.spec (λ c. search rules) (λ c. search rules) (λ c. search rules) returns)
+    (elim c.if-n-lt-CAP.branch [ then-n-lt-CAP w ↦ w.values-is ∙ ap (set a.l.values a.l.row.len) z | else-n-lt-CAP w ↦ w.values-is ∙ sym (set_out a.l.values a.l.row.len a.v (omega arith)) ])

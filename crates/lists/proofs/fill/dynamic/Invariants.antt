@@ -1,0 +1,12 @@
+-- DYNAMIC stands before the place i as often as it is to.
+use Prim.Native.Nat.{◌-◌}
+use lib.ListN.{replicate}
+use Rattle.meaning.specs.Tile.{DYNAMIC}
+use Rattle.lists.proofs.Filling as F
+use Rattle.lists.proofs.fill.dynamic.Given as goal
+
+abbrev pub invariant-loop-i : goal.invariant-loop-i
+invariant-loop-i l = F.Filled 8 (replicate l.n DYNAMIC) l.values l.i
+
+abbrev pub decreases-loop-i : goal.decreases-loop-i
+decreases-loop-i l = 8 - l.i
