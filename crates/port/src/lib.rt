@@ -1,5 +1,6 @@
 // The port of types.rs (01, modules 3 to 7): what `Type::parse` returns, with the default counts. Names are those of types.rs.
 #![tactic(auto)]
+
 mod anchors;
 mod brackets;
 mod inner;

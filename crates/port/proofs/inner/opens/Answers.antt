@@ -1,0 +1,33 @@
+-- `opens` meets its contract: the longer prefix that was sighted decides, then the shorter, then what stands behind the tile.
+use native.Mathlib.Omega.{arith}
+use mathlib.Core.Option.{some}
+use mathlib.Core.Path.{sym, ap, ◌∙◌}
+use borrow.Author.Rules.{rules}
+use lib.ListN.{drop}
+use Rattle.lexis.specs.Text.{bytes, spot}
+use Rattle.port.proofs.Placing as L
+use Rattle.port.proofs.inner.opens.Goals as goal
+
+pub returns-then-named-inner : goal.returns-then-named-inner
+returns-then-named-inner c = let a = c.args in (L.opened_named c.requires.0 (drop a.behind a.inner.now) c.if-named-inner.true, L.fits c.requires.0.named c.if-named-inner.true)
+
+pub returns-then-prefixed-inner : goal.returns-then-prefixed-inner
+returns-then-prefixed-inner c = let a = c.args in
+    (L.opened_prefixed c.requires.0 (drop a.behind a.inner.now) (search rules) c.if-prefixed-inner.true, L.fits c.requires.0.prefixed c.if-prefixed-inner.true)
+
+pub overflow_add-result-in-At : goal.overflow_add-result-in-At
+overflow_add-result-in-At c = let a = c.args in omega (arith, L.fits_behind (bytes "tensor_view<") a.inner.now a.behind _ c.requires.3 (sym c.plain_from.ensures ∙ ap spot c.in-At.is))
+
+pub overflow_add-result-in-At-2 : goal.overflow_add-result-in-At-2
+overflow_add-result-in-At-2 c = let a = c.args in omega (arith, L.fits_behind (bytes "tensor_view<") a.inner.now a.behind _ c.requires.3 (sym c.plain_from.ensures ∙ ap spot c.in-At.is))
+
+pub returns-in-At : goal.returns-in-At
+returns-in-At c = let a = c.args in (
+  L.opened_plain c.requires.0 (drop a.behind a.inner.now) (search rules) (search rules) _ (sym c.plain_from.ensures ∙ ap spot c.in-At.is)
+      ∙ ap some (L.both a.inner.now a.behind _),
+  L.fits_behind (bytes "tensor_view<") a.inner.now a.behind _ c.requires.3 (sym c.plain_from.ensures ∙ ap spot c.in-At.is),
+)
+
+pub returns-in-Nowhere : goal.returns-in-Nowhere
+returns-in-Nowhere c = let a = c.args in
+    (L.opened_none c.requires.0 (drop a.behind a.inner.now) (search rules) (search rules) (sym c.plain_from.ensures ∙ ap spot c.in-Nowhere.is), tt)

@@ -1,0 +1,25 @@
+-- `find_mark` meets its contract: the place in the whole text is `from` more than that in its rest from there on.
+-- Each turn passes the first `>` behind a `#`, unless the first mark ends there.
+use Prim.Native.Nat.{◌-◌}
+use mathlib.Core.Path.{sym, ap, ◌∙◌}
+use borrow.Author.Rules.{rules}
+use Rattle.lexis.specs.Text.{cut, place}
+use Rattle.lexis.proofs.Seeking.{unshifted}
+use Rattle.port.proofs.Removal.{sought, mark_is}
+use Rattle.port.proofs.Spotting as L
+use Rattle.port.proofs.marks.find_mark.Goals as goal
+
+pub loop-from-init : goal.loop-from-init
+loop-from-init c = let s = c.args.text.now in (search rules, ap (λ m. place (cut m s)) mark_is ∙ unshifted (place (cut sought s)))
+
+pub returns-then-text-h : goal.returns-then-text-h
+returns-then-text-h c = let l = c.loop-from in
+    sym (l.invariant.1 ∙ L.no_hash _ l.from l.invariant.0 c.seek-h.ensures (search rules))
+
+pub returns-then-text-e : goal.returns-then-text-e
+returns-then-text-e c = let l = c.loop-from in
+    sym (l.invariant.1 ∙ L.no_end _ l.from l.invariant.0 c.seek-h.ensures c.seek-e.ensures (search rules))
+
+pub overflow_add-from-in-loop-from : goal.overflow_add-from-in-loop-from
+overflow_add-from-in-loop-from c = let l = c.loop-from in
+    sym (l.invariant.1 ∙ L.ends_here _ l.from l.invariant.0 c.seek-h.ensures c.seek-e.ensures (search rules) (search rules) (sym c.if-begins.true ∙ c.begins.ensures))

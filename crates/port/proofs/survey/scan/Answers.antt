@@ -1,0 +1,36 @@
+-- `scan` meets its contract: from anchor to anchor the match and the first places are kept.
+use Prim.Native.Nat.{◌-◌}
+use native.Mathlib.Omega.{arith}
+use mathlib.Core.Logic.{⊎_elim}
+use borrow.Author.Rules.{rules}
+use Rattle.port.proofs.Keeping as L
+use Rattle.port.proofs.survey.scan.Goals as goal
+
+pub loop-i-init : goal.loop-i-init
+loop-i-init c = L.begin c.none_yet-r.ensures c.seek_hot-i.ensures
+
+pub returns-then-d-eq0 : goal.returns-then-d-eq0
+returns-then-d-eq0 c = L.matched c.loop-i.invariant (search rules) c.if-b-eq62.true c.if-d-eq0.true
+
+pub deepened-d-requires : goal.deepened-d-requires
+deepened-d-requires c =
+    let g = c.loop-i.invariant in
+    let h = g.low in
+    let k = c.loop-i-test.true in
+    (search rules, ⊎_elim (λ w a b. w.1.left b) (λ w a b. w.left a) c.if-b-eq62.branch)
+
+pub sighted-r-requires : goal.sighted-r-requires
+sighted-r-requires c = (search rules, c.loop-i.invariant.sights)
+
+pub loop-i-smaller : goal.loop-i-smaller
+loop-i-smaller c =
+    let e = c.seek_hot-i-in-loop-i.ensures in
+    let h = c.loop-i-test.true in
+    omega arith
+
+pub loop-i-preserved : goal.loop-i-preserved
+loop-i-preserved c = L.again c.loop-i.invariant (search rules) c.deepened-d.ensures
+    c.sighted-r.ensures c.seek_hot-i-in-loop-i.ensures
+
+pub returns : goal.returns
+returns c = L.unmatched c.loop-i.invariant (search rules)

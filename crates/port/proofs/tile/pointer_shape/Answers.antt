@@ -1,0 +1,6 @@
+-- `pointer_shape` meets its contract: none if nothing is left, else what is laid is what the trimmings leave.
+use Rattle.port.proofs.Tiling as L
+use Rattle.port.proofs.tile.pointer_shape.Goals as goal
+
+pub trim_end_matches-requires : goal.trim_end_matches-requires
+trim_end_matches-requires c = L.shape_none c.args.before.now _ _ c.trim.ensures c.trim_end_repeats-b.ensures c.if-b-eq0.true c.none64.ensures

@@ -1,0 +1,26 @@
+-- `list_after` meets its contract: the prefix was sighted, then the `]` behind it is found.
+use mathlib.Core.Path.{sym, ap, ◌∙◌}
+use native.Mathlib.Omega.{arith}
+use borrow.Author.Rules.{rules}
+use Rattle.lexis.specs.Text.{bytes, spot}
+use Rattle.port.proofs.Clauses as L
+use Rattle.port.proofs.Placing as P
+use Rattle.port.proofs.views.list_after.Goals as goal
+
+pub returns-then-inner-at : goal.returns-then-inner-at
+returns-then-inner-at c = L.list_absent c.args.prefix.now c.args.inner.now (P.unplaced_at c.requires c.if-inner-at.true)
+
+pub overflow_add-start : goal.overflow_add-start
+overflow_add-start c = omega (arith, P.fits c.requires (search rules))
+
+pub slice_bounds-find-count : goal.slice_bounds-find-count
+slice_bounds-find-count c = omega (arith, P.fits c.requires (search rules))
+
+pub slice_bounds-find-start : goal.slice_bounds-find-start
+slice_bounds-find-start c = omega (arith, P.fits c.requires (search rules))
+
+pub enum_told-1 : goal.enum_told-1
+enum_told-1 c = omega (arith, L.next_within c.args.prefix.now c.args.inner.now _ (P.placed_at c.requires (search rules)) (bytes "]") _ (sym c.find.ensures ∙ ap spot c.in-Nowhere.is))
+
+pub returns-in-Nowhere : goal.returns-in-Nowhere
+returns-in-Nowhere c = L.list_closed c.args.prefix.now c.args.inner.now _ (P.placed_at c.requires (search rules)) _ (sym c.find.ensures ∙ ap spot c.in-Nowhere.is)

@@ -1,0 +1,32 @@
+-- `parse_gather_scatter_view` meets its contract: what is built of the view and the sparse dimension is the view that was found.
+use mathlib.Core.Path.{refl, ap, ◌∙◌}
+use Rattle.lexis.specs.Text.{bytes, cut}
+use Rattle.meaning.specs.Found.{unused}
+use Rattle.meaning.specs.Views.{sparse_by}
+use Rattle.port.specs.Carried.{answered}
+use Rattle.port.proofs.Clauses as L
+use Rattle.port.proofs.Making as M
+use Rattle.port.proofs.Sights as S
+use Rattle.port.proofs.views.parse_gather_scatter_view.Goals as goal
+
+pub returns-then-not-v : goal.returns-then-not-v
+returns-then-not-v c = let a = c.args in
+    c.refuse.ensures ∙ ap (answered a.marked) (S.no_gather a.inner.now c.parse_view-v.ensures c.if-not-v.true)
+
+pub parse_sparse-requires : goal.parse_sparse-requires
+parse_sparse-requires c = c.requires.sparse
+
+pub meant_view-requires : goal.meant_view-requires
+meant_view-requires c = let s = c.args.inner.now in
+    let v = S.sound s c.parse_view-v.ensures c.if-not-v.false in record {
+      shape = v.0;
+      strides = v.1;
+      map = M.sound_list unused c.none32.ensures;
+      traversal = M.sound_list unused c.none32-2.ensures;
+      sparse = M.sound_one (sparse_by (cut (bytes "sparse_dim=") s)) c.parse_sparse.ensures (L.one_sparse (cut (bytes "sparse_dim=") s));
+    }
+
+pub returns : goal.returns
+returns c = let a = c.args in
+    c.view_of.ensures ∙ ap (answered a.marked) (S.gather_is a.inner.now c.parse_view-v.ensures c.if-not-v.false
+    refl c.none32.ensures c.none32-2.ensures c.parse_sparse.ensures)

@@ -1,0 +1,27 @@
+-- `parse_i32_list_after` meets its contract: by the three answers that the place of a list can be.
+use Prim.Native.Nat.{◌-◌}
+use mathlib.Core.Path.{◌∙◌}
+use native.Mathlib.Omega.{arith}
+use lib.ListN.{take, drop}
+use Rattle.lists.specs.Laid.{list32}
+use Rattle.port.proofs.Clauses as L
+use Rattle.port.proofs.views.parse_i32_list_after.Goals as goal
+
+pub slice_bounds-parse_smalls-count : goal.slice_bounds-parse_smalls-count
+slice_bounds-parse_smalls-count c = let g = L.told c.list_after.ensures c.in-Between.is in omega arith
+
+pub slice_bounds-parse_smalls-start : goal.slice_bounds-parse_smalls-start
+slice_bounds-parse_smalls-start c = let g = L.told c.list_after.ensures c.in-Between.is in omega arith
+
+pub slice_bounds-parse_smalls-end : goal.slice_bounds-parse_smalls-end
+slice_bounds-parse_smalls-end c = let g = L.told c.list_after.ensures c.in-Between.is in omega arith
+
+pub returns-in-Between : goal.returns-in-Between
+returns-in-Between c = let n = c.a-1.given in let s = c.args.inner.now in
+    L.entries_are (take (n.0.1.0 - n.0.0) (drop n.0.0 s)) c.parse_smalls.ensures ∙ L.laid_as c.list_after.ensures n.1 (list32 c.args.own_val)
+
+pub returns-in-Unclosed : goal.returns-in-Unclosed
+returns-in-Unclosed c = L.laid_as c.list_after.ensures c.in-Unclosed.is (list32 c.args.own_val)
+
+pub returns-in-Absent : goal.returns-in-Absent
+returns-in-Absent c = L.laid_as c.list_after.ensures c.in-Absent.is (list32 c.args.own_val)

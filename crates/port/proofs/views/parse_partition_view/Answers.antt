@@ -1,0 +1,61 @@
+-- `parse_partition_view` meets its contract: by the three answers that the place of the map can be.
+use mathlib.Core.Path.{refl, ap, ◌∙◌}
+use native.Mathlib.Omega.{arith}
+use Prim.Native.Nat.{◌-◌}
+use lib.IntN.{pos}
+use lib.ListN.{take, drop}
+use Rattle.lexis.specs.Text.{split}
+use Rattle.meaning.specs.Found.{unused, filled}
+use Rattle.meaning.specs.Views.{count_up}
+use Rattle.lists.specs.Laid.{smalls}
+use Rattle.port.specs.Carried.{answered}
+use Rattle.port.proofs.Clauses as L
+use Rattle.port.proofs.Making as M
+use Rattle.port.proofs.Sights as S
+use Rattle.port.proofs.views.parse_partition_view.Goals as goal
+
+pub returns-then-not-v : goal.returns-then-not-v
+returns-then-not-v c = let a = c.args in
+    c.refuse.ensures ∙ ap (answered a.marked) (S.no_partition a.inner.now c.parse_view-v.ensures c.if-not-v.true)
+
+pub enum_known-a : goal.enum_known-a
+enum_known-a c κs = c.requires.map
+
+pub slice_bounds-parse_smalls-start : goal.slice_bounds-parse_smalls-start
+slice_bounds-parse_smalls-start c = let g = L.told c.list_after.ensures c.in-Between.is in omega arith
+
+pub slice_bounds-parse_smalls-end : goal.slice_bounds-parse_smalls-end
+slice_bounds-parse_smalls-end c = let g = L.told c.list_after.ensures c.in-Between.is in omega arith
+
+pub parse_smalls-requires : goal.parse_smalls-requires
+parse_smalls-requires c = let g = L.told c.list_after.ensures c.in-Between.is in omega arith
+
+pub enum_told-1 : goal.enum_told-1
+enum_told-1 c κs = let s = c.args.inner.now in let n = c.a-1.given.0 in
+    let v = S.sound s c.parse_view-v.ensures c.if-not-v.false in record {
+      shape = v.0;
+      strides = v.1;
+      map = M.sound_list (smalls (pos 0) (split 44 (take (n.1.0 - n.0) (drop n.0 s)))) c.parse_smalls.ensures;
+      traversal = M.sound_list unused c.none32.ensures;
+      sparse = M.sound_one unused c.none32-in-Between.ensures (omega arith);
+    }
+
+pub returns-in-Between : goal.returns-in-Between
+returns-in-Between c κs = let v = S.sound c.args.inner.now c.parse_view-v.ensures c.if-not-v.false in record {
+  shape = v.0;
+  strides = v.1;
+  map = M.sound_list (filled (count_up 0 c.parse_view-v.result.tile.row.len)) c.count_up.ensures;
+  traversal = M.sound_list unused c.none32-in-Absent.ensures;
+  sparse = M.sound_one unused c.none32-in-Absent-2.ensures (omega arith);
+}
+
+pub returns-in-Unclosed : goal.returns-in-Unclosed
+returns-in-Unclosed c = let a = c.args in let n = c.a-1.given in
+    c.view_of.ensures ∙ ap (answered a.marked) (S.partition_listed a.inner.now c.parse_view-v.ensures c.if-not-v.false
+    refl c.none32.ensures c.none32-in-Between.ensures
+    n.0.0 n.0.1.0 (L.told c.list_after.ensures n.1) c.parse_smalls.ensures)
+
+pub returns-in-Absent : goal.returns-in-Absent
+returns-in-Absent c = let a = c.args in
+    c.refuse-in-Unclosed.ensures ∙ ap (answered a.marked) (S.partition_unclosed a.inner.now c.parse_view-v.ensures c.if-not-v.false
+    (L.told c.list_after.ensures c.in-Absent.is))

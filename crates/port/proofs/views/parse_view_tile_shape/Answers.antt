@@ -1,0 +1,33 @@
+-- `parse_view_tile_shape` meets its contract: `tile=(` was sighted, then the `)` behind it is found.
+use mathlib.Core.Path.{sym, ap, ◌∙◌}
+use native.Mathlib.Omega.{arith}
+use borrow.Author.Rules.{rules}
+use Rattle.lexis.specs.Text.{bytes, spot}
+use Rattle.port.proofs.Clauses as L
+use Rattle.port.proofs.Placing as P
+use Rattle.port.proofs.Sights as S
+use Rattle.port.proofs.views.parse_view_tile_shape.Goals as goal
+
+pub returns-then-inner-at : goal.returns-then-inner-at
+returns-then-inner-at c = S.tile_absent c.args.inner.now c.args.at (P.unplaced_at c.requires c.if-inner-at.true) _ c.no_tile.ensures
+
+pub overflow_add-start : goal.overflow_add-start
+overflow_add-start c = omega (arith, P.fits c.requires (search rules))
+
+pub slice_bounds-find-count : goal.slice_bounds-find-count
+slice_bounds-find-count c = omega (arith, P.fits c.requires (search rules))
+
+pub slice_bounds-find-start : goal.slice_bounds-find-start
+slice_bounds-find-start c = omega (arith, P.fits c.requires (search rules))
+
+pub slice_bounds-tile_entries-count : goal.slice_bounds-tile_entries-count
+slice_bounds-tile_entries-count c = omega (arith, L.next_within (bytes "tile=(") c.args.inner.now _ (P.placed_at c.requires (search rules)) (bytes ")") _ (sym c.find.ensures ∙ ap spot c.in-At.is))
+
+pub tile_entries-requires : goal.tile_entries-requires
+tile_entries-requires c = omega (arith, L.next_within (bytes "tile=(") c.args.inner.now _ (P.placed_at c.requires (search rules)) (bytes ")") _ (sym c.find.ensures ∙ ap spot c.in-At.is))
+
+pub enum_told-1 : goal.enum_told-1
+enum_told-1 c = omega (arith, L.next_within (bytes "tile=(") c.args.inner.now _ (P.placed_at c.requires (search rules)) (bytes ")") _ (sym c.find.ensures ∙ ap spot c.in-Nowhere.is))
+
+pub returns-in-Nowhere : goal.returns-in-Nowhere
+returns-in-Nowhere c = S.tile_closed c.args.inner.now _ (P.placed_at c.requires (search rules)) _ (sym c.find.ensures ∙ ap spot c.in-Nowhere.is) _ c.tile_entries.ensures
