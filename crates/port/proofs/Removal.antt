@@ -55,6 +55,7 @@ module _ (m : List ℕ) (h : 0 < length m) where
   parts (b ∷ s) = by (begins m (b ∷ s)) (after_drop m (b ∷ s)) (parts s)
     where
       less : (n : ℕ) → 0 < n → drop (n - 1) s ≡ drop n (b ∷ s)
+      less zero h = elim h [ ]
       less (suc n) h = rw sub-one
 
       by : (d : Bool) → (d ≡ true → after m (b ∷ s) ≡ drop (length m) (b ∷ s)) → Parts m (remove m s) s (cut m s)

@@ -213,7 +213,7 @@ fn parse_sparse(inner: &[u8], at: usize) -> List32
     lists::parse_one(&u[..n])
 }
 
-fn meant_view(
+fn view_of(
     kind: Kind,
     v: View,
     map: List32,
@@ -247,7 +247,7 @@ pub(crate) fn parse_partition_view(inner: &[u8], k: Places, marked: bool) -> Rea
     let tile = v.tile;
     match list_after(inner, b"dim_map=[", k.map) {
         Closed::Between(a, e) => {
-            meant_view(
+            view_of(
                 Kind::Partition,
                 v,
                 lists::parse_smalls(&inner[a..e], b',', 0),
@@ -257,7 +257,7 @@ pub(crate) fn parse_partition_view(inner: &[u8], k: Places, marked: bool) -> Rea
             )
         }
         Closed::Unclosed => refuse(Refusal::NoType, 0),
-        Closed::Absent => meant_view(
+        Closed::Absent => view_of(
             Kind::Partition,
             v,
             lists::count_up(tile.row.len),
@@ -276,7 +276,7 @@ pub(crate) fn parse_gather_scatter_view(inner: &[u8], k: Places, marked: bool) -
     if !v.found {
         return refuse(Refusal::NoType, 0);
     }
-    meant_view(
+    view_of(
         Kind::GatherScatter,
         v,
         lists::none32(),
@@ -303,5 +303,5 @@ pub(crate) fn parse_strided_view(inner: &[u8], k: Places, marked: bool) -> Readi
         k.traversal,
         lists::ones(n),
     );
-    meant_view(Kind::Strided, v, map, traversal, lists::none32(), marked)
+    view_of(Kind::Strided, v, map, traversal, lists::none32(), marked)
 }

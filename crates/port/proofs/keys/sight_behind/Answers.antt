@@ -12,6 +12,9 @@ returns-then-i-tile c = L.before c.requires.1 (search rules)
 pub returns-then-i-tile-lt6 : goal.returns-then-i-tile-lt6
 returns-then-i-tile-lt6 c = L.before c.requires.1 (search rules)
 
-pub returns : goal.returns
-returns c κs = let q = c.requires in
+pub sight-requires : goal.sight-requires
+sight-requires c = let q = c.requires in
     (L.handed_in q.1 q.0 (search rules), search rules, L.handed q.1 (search rules))
+
+pub returns : goal.returns
+returns c = L.opens c.requires.1 (search rules) (search rules) c.sight.ensures

@@ -1,7 +1,9 @@
 -- `find_mark` meets its contract: the place in the whole text is `from` more than that in its rest from there on.
 -- Each turn passes the first `>` behind a `#`, unless the first mark ends there.
 use Prim.Native.Nat.{◌-◌}
+use mathlib.Core.Logic.{⊎_elim}
 use mathlib.Core.Path.{sym, ap, ◌∙◌}
+use native.Mathlib.Omega.{arith}
 use borrow.Author.Rules.{rules}
 use Rattle.lexis.specs.Text.{cut, place}
 use Rattle.lexis.proofs.Seeking.{unshifted}
@@ -20,6 +22,13 @@ pub returns-then-text-e : goal.returns-then-text-e
 returns-then-text-e c = let l = c.loop-from in
     sym (l.invariant.1 ∙ L.no_end _ l.from l.invariant.0 c.seek-h.ensures c.seek-e.ensures (search rules))
 
-pub overflow_add-from-in-loop-from : goal.overflow_add-from-in-loop-from
-overflow_add-from-in-loop-from c = let l = c.loop-from in
+pub returns-then-begins : goal.returns-then-begins
+returns-then-begins c = let l = c.loop-from in
     sym (l.invariant.1 ∙ L.ends_here _ l.from l.invariant.0 c.seek-h.ensures c.seek-e.ensures (search rules) (search rules) (sym c.if-begins.true ∙ c.begins.ensures))
+
+pub loop-from-preserved : goal.loop-from-preserved
+loop-from-preserved c = let l = c.loop-from in (
+  search rules,
+  l.invariant.1 ∙ L.onward _ l.from l.invariant.0 c.seek-h.ensures c.seek-e.ensures (search rules)
+      (λ k. ⊎_elim (λ w. sym w.4.left ∙ w.3.ensures) (λ w. let f : ⊥ = omega (arith, w.left) in absurd f) c.if-from-e.branch),
+)

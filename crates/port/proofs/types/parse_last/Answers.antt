@@ -5,10 +5,14 @@ use Rattle.port.specs.Forms.{shorthand}
 use Rattle.port.proofs.Dispatching as L
 use Rattle.port.proofs.types.parse_last.Goals as goal
 
+pub parse_ptr-requires : goal.parse_ptr-requires
+unfolding forms shorthand
+parse_ptr-requires c = L.applied c.applies-q.ensures c.if-q.true
+
 pub returns-then-q : goal.returns-then-q
 unfolding forms shorthand
-returns-then-q c κs = L.applied c.applies-q.ensures c.if-q.true
+returns-then-q c = L.decides (L.untried (drop 5 shorthand) _ c.args.t.now) c.args.marked _ c.strip_prefix_suffix.ensures c.parse_ptr.ensures
 
 pub returns : goal.returns
 unfolding forms shorthand
-returns c = L.decides (L.untried (drop 5 shorthand) _ c.args.t.now) c.args.marked _ c.strip_prefix_suffix.ensures c.parse_ptr.ensures
+returns c = L.at_last c.args.marked (L.past (L.untried (drop 5 shorthand) _ _) c.applies-q.ensures c.if-q.false) c.parse_bare.ensures

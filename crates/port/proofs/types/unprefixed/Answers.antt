@@ -16,5 +16,8 @@ slice_bounds-result-start c = eleven c
 pub slice_bounds-result-end : goal.slice_bounds-result-end
 slice_bounds-result-end c = eleven c
 
+pub returns-then-begins : goal.returns-then-begins
+returns-then-begins c = rw (sym c.begins.ensures ∙ c.if-begins.true) (rest c.args.s.now 11)
+
 pub returns-else-begins : goal.returns-else-begins
-returns-else-begins c = rw (sym c.begins.ensures ∙ c.if-begins.true) (rest c.args.s.now 11)
+returns-else-begins c = rw (sym c.begins.ensures ∙ c.if-begins.false)

@@ -19,8 +19,11 @@ slice_bounds-find-count c = omega (arith, P.fits c.requires (search rules))
 pub slice_bounds-find-start : goal.slice_bounds-find-start
 slice_bounds-find-start c = omega (arith, P.fits c.requires (search rules))
 
-pub enum_told-1 : goal.enum_told-1
-enum_told-1 c = omega (arith, L.next_within c.args.prefix.now c.args.inner.now _ (P.placed_at c.requires (search rules)) (bytes "]") _ (sym c.find.ensures ∙ ap spot c.in-Nowhere.is))
+pub overflow_add-result : goal.overflow_add-result
+overflow_add-result c = omega (arith, L.next_within c.args.prefix.now c.args.inner.now _ (P.placed_at c.requires (search rules)) (bytes "]") _ (sym c.find.ensures ∙ ap spot c.in-At.is))
+
+pub returns-in-At : goal.returns-in-At
+returns-in-At c = L.list_closed c.args.prefix.now c.args.inner.now _ (P.placed_at c.requires (search rules)) _ (sym c.find.ensures ∙ ap spot c.in-At.is)
 
 pub returns-in-Nowhere : goal.returns-in-Nowhere
-returns-in-Nowhere c = L.list_closed c.args.prefix.now c.args.inner.now _ (P.placed_at c.requires (search rules)) _ (sym c.find.ensures ∙ ap spot c.in-Nowhere.is)
+returns-in-Nowhere c = L.list_unclosed c.args.prefix.now c.args.inner.now _ (P.placed_at c.requires (search rules)) (sym c.find.ensures ∙ ap spot c.in-Nowhere.is)

@@ -1,5 +1,6 @@
 -- `parse_gather_scatter_view` meets its contract: what is built of the view and the sparse dimension is the view that was found.
 use mathlib.Core.Path.{refl, ap, ◌∙◌}
+use borrow.Author.Tests.{not-true, not-false}
 use Rattle.lexis.specs.Text.{bytes, cut}
 use Rattle.meaning.specs.Found.{unused}
 use Rattle.meaning.specs.Views.{sparse_by}
@@ -11,14 +12,14 @@ use Rattle.port.proofs.views.parse_gather_scatter_view.Goals as goal
 
 pub returns-then-not-v : goal.returns-then-not-v
 returns-then-not-v c = let a = c.args in
-    c.refuse.ensures ∙ ap (answered a.marked) (S.no_gather a.inner.now c.parse_view-v.ensures c.if-not-v.true)
+    c.refuse.ensures ∙ ap (answered a.marked) (S.no_gather a.inner.now c.parse_view-v.ensures (not-true _ c.if-not-v.true))
 
 pub parse_sparse-requires : goal.parse_sparse-requires
 parse_sparse-requires c = c.requires.sparse
 
-pub meant_view-requires : goal.meant_view-requires
-meant_view-requires c = let s = c.args.inner.now in
-    let v = S.sound s c.parse_view-v.ensures c.if-not-v.false in record {
+pub view_of-requires : goal.view_of-requires
+view_of-requires c = let s = c.args.inner.now in
+    let v = S.sound s c.parse_view-v.ensures (not-false _ c.if-not-v.false) in record {
       shape = v.0;
       strides = v.1;
       map = M.sound_list unused c.none32.ensures;
@@ -28,5 +29,5 @@ meant_view-requires c = let s = c.args.inner.now in
 
 pub returns : goal.returns
 returns c = let a = c.args in
-    c.view_of.ensures ∙ ap (answered a.marked) (S.gather_is a.inner.now c.parse_view-v.ensures c.if-not-v.false
+    c.view_of.ensures ∙ ap (answered a.marked) (S.gather_is a.inner.now c.parse_view-v.ensures (not-false _ c.if-not-v.false)
     refl c.none32.ensures c.none32-2.ensures c.parse_sparse.ensures)

@@ -44,11 +44,20 @@ left5 c = left4 c.before.before.before ∙ rw (sym c.before.contains4.ensures �
 pub returns-then-inner-at : goal.returns-then-inner-at
 returns-then-inner-at c = sym (L.asked c.args.inner.now ∙ rw (ap found (P.unplaced c.requires c.if-inner-at.true)))
 
-pub contains-requires-2 : goal.contains-requires-2
-contains-requires-2 c = sym (left1 c.before ∙ rw (sym c.contains.ensures ∙ c.if-contains.true))
+pub returns-then-contains : goal.returns-then-contains
+returns-then-contains c = sym (left1 c.before ∙ rw (sym c.contains.ensures ∙ c.if-contains.true))
+
+pub returns-then-contains-2 : goal.returns-then-contains-2
+returns-then-contains-2 c = sym (left2 c.before ∙ rw (sym c.contains-2.ensures ∙ c.if-contains-2.true))
 
 pub returns-then-contains-3 : goal.returns-then-contains-3
-returns-then-contains-3 c = sym (left2 c.before ∙ rw (sym c.contains-2.ensures ∙ c.if-contains-2.true))
+returns-then-contains-3 c = sym (left3 c.before ∙ rw (sym c.contains-3.ensures ∙ c.if-contains-3.true))
 
-pub contains-requires-5 : goal.contains-requires-5
-contains-requires-5 c = sym (left3 c.before ∙ rw (sym c.contains-3.ensures ∙ c.if-contains-3.true))
+pub returns-then-contains-4 : goal.returns-then-contains-4
+returns-then-contains-4 c = sym (left4 c.before ∙ rw (sym c.contains-4.ensures ∙ c.if-contains-4.true))
+
+pub returns-then-contains-5 : goal.returns-then-contains-5
+returns-then-contains-5 c = sym (left5 c.before ∙ rw (sym c.contains-5.ensures ∙ c.if-contains-5.true))
+
+pub returns : goal.returns
+returns c = sym (left5 c.before ∙ rw (sym c.contains-5.ensures ∙ c.if-contains-5.false))

@@ -1,6 +1,7 @@
 -- `parse_partition_view` meets its contract: by the three answers that the place of the map can be.
 use mathlib.Core.Path.{refl, ap, ◌∙◌}
 use native.Mathlib.Omega.{arith}
+use borrow.Author.Tests.{not-true, not-false}
 use Prim.Native.Nat.{◌-◌}
 use lib.IntN.{pos}
 use lib.ListN.{take, drop}
@@ -16,10 +17,13 @@ use Rattle.port.proofs.views.parse_partition_view.Goals as goal
 
 pub returns-then-not-v : goal.returns-then-not-v
 returns-then-not-v c = let a = c.args in
-    c.refuse.ensures ∙ ap (answered a.marked) (S.no_partition a.inner.now c.parse_view-v.ensures c.if-not-v.true)
+    c.refuse.ensures ∙ ap (answered a.marked) (S.no_partition a.inner.now c.parse_view-v.ensures (not-true _ c.if-not-v.true))
 
-pub enum_known-a : goal.enum_known-a
-enum_known-a c κs = c.requires.map
+pub list_after-requires : goal.list_after-requires
+list_after-requires c = c.requires.map
+
+pub slice_bounds-parse_smalls-count : goal.slice_bounds-parse_smalls-count
+slice_bounds-parse_smalls-count c = let g = L.told c.list_after.ensures c.in-Between.is in omega arith
 
 pub slice_bounds-parse_smalls-start : goal.slice_bounds-parse_smalls-start
 slice_bounds-parse_smalls-start c = let g = L.told c.list_after.ensures c.in-Between.is in omega arith
@@ -27,12 +31,9 @@ slice_bounds-parse_smalls-start c = let g = L.told c.list_after.ensures c.in-Bet
 pub slice_bounds-parse_smalls-end : goal.slice_bounds-parse_smalls-end
 slice_bounds-parse_smalls-end c = let g = L.told c.list_after.ensures c.in-Between.is in omega arith
 
-pub parse_smalls-requires : goal.parse_smalls-requires
-parse_smalls-requires c = let g = L.told c.list_after.ensures c.in-Between.is in omega arith
-
-pub enum_told-1 : goal.enum_told-1
-enum_told-1 c κs = let s = c.args.inner.now in let n = c.a-1.given.0 in
-    let v = S.sound s c.parse_view-v.ensures c.if-not-v.false in record {
+pub view_of-requires : goal.view_of-requires
+view_of-requires c = let s = c.args.inner.now in let n = c.a-1.given.0 in
+    let v = S.sound s c.parse_view-v.ensures (not-false _ c.if-not-v.false) in record {
       shape = v.0;
       strides = v.1;
       map = M.sound_list (smalls (pos 0) (split 44 (take (n.1.0 - n.0) (drop n.0 s)))) c.parse_smalls.ensures;
@@ -40,8 +41,8 @@ enum_told-1 c κs = let s = c.args.inner.now in let n = c.a-1.given.0 in
       sparse = M.sound_one unused c.none32-in-Between.ensures (omega arith);
     }
 
-pub returns-in-Between : goal.returns-in-Between
-returns-in-Between c κs = let v = S.sound c.args.inner.now c.parse_view-v.ensures c.if-not-v.false in record {
+pub view_of-requires-in-Absent : goal.view_of-requires-in-Absent
+view_of-requires-in-Absent c = let v = S.sound c.args.inner.now c.parse_view-v.ensures (not-false _ c.if-not-v.false) in record {
   shape = v.0;
   strides = v.1;
   map = M.sound_list (filled (count_up 0 c.parse_view-v.result.tile.row.len)) c.count_up.ensures;
@@ -49,13 +50,19 @@ returns-in-Between c κs = let v = S.sound c.args.inner.now c.parse_view-v.ensur
   sparse = M.sound_one unused c.none32-in-Absent-2.ensures (omega arith);
 }
 
-pub returns-in-Unclosed : goal.returns-in-Unclosed
-returns-in-Unclosed c = let a = c.args in let n = c.a-1.given in
-    c.view_of.ensures ∙ ap (answered a.marked) (S.partition_listed a.inner.now c.parse_view-v.ensures c.if-not-v.false
+pub returns-in-Between : goal.returns-in-Between
+returns-in-Between c = let a = c.args in let n = c.a-1.given in
+    c.view_of.ensures ∙ ap (answered a.marked) (S.partition_listed a.inner.now c.parse_view-v.ensures (not-false _ c.if-not-v.false)
     refl c.none32.ensures c.none32-in-Between.ensures
     n.0.0 n.0.1.0 (L.told c.list_after.ensures n.1) c.parse_smalls.ensures)
 
+pub returns-in-Unclosed : goal.returns-in-Unclosed
+returns-in-Unclosed c = let a = c.args in
+    c.refuse-in-Unclosed.ensures ∙ ap (answered a.marked) (S.partition_unclosed a.inner.now c.parse_view-v.ensures (not-false _ c.if-not-v.false)
+    (L.told c.list_after.ensures c.in-Unclosed.is))
+
 pub returns-in-Absent : goal.returns-in-Absent
 returns-in-Absent c = let a = c.args in
-    c.refuse-in-Unclosed.ensures ∙ ap (answered a.marked) (S.partition_unclosed a.inner.now c.parse_view-v.ensures c.if-not-v.false
-    (L.told c.list_after.ensures c.in-Absent.is))
+    c.view_of-in-Absent.ensures ∙ ap (answered a.marked) (S.partition_absent a.inner.now c.parse_view-v.ensures (not-false _ c.if-not-v.false)
+    refl c.none32-in-Absent.ensures c.none32-in-Absent-2.ensures
+    (L.told c.list_after.ensures c.in-Absent.is) c.count_up.ensures)

@@ -1,15 +1,38 @@
 -- `parse_strided_view` meets its contract: each list or what fills in for it.
-use mathlib.Core.Path.{ap, ◌∙◌}
+use mathlib.Core.Path.{refl, ap, ◌∙◌}
+use native.Mathlib.Omega.{arith}
+use borrow.Author.Tests.{not-true, not-false}
+use Rattle.lexis.specs.Text.{bytes}
+use lib.IntN.{pos}
+use lib.ListN.{replicate}
+use Rattle.meaning.specs.Found.{unused, filled}
+use Rattle.meaning.specs.Views.{list_after, count_up}
+use Rattle.lists.specs.Laid.{list32}
 use Rattle.port.specs.Carried.{answered}
+use Rattle.port.proofs.Clauses as L
+use Rattle.port.proofs.Making as M
 use Rattle.port.proofs.Sights as S
 use Rattle.port.proofs.views.parse_strided_view.Goals as goal
 
 pub returns-then-not-v : goal.returns-then-not-v
 returns-then-not-v c = let a = c.args in
-    c.refuse.ensures ∙ ap (answered a.marked) (S.no_strided a.inner.now c.parse_view-v.ensures c.if-not-v.true)
+    c.refuse.ensures ∙ ap (answered a.marked) (S.no_strided a.inner.now c.parse_view-v.ensures (not-true _ c.if-not-v.true))
 
-pub ones-requires : goal.ones-requires
-ones-requires c = c.requires.map
+pub count_up-requires : goal.count_up-requires
+count_up-requires c = c.requires.map
 
-pub meant_view-requires : goal.meant_view-requires
-meant_view-requires c = c.requires.traversal
+pub parse_i32_list_after-traversal-requires : goal.parse_i32_list_after-traversal-requires
+parse_i32_list_after-traversal-requires c = c.requires.traversal
+
+pub view_of-requires : goal.view_of-requires
+view_of-requires c = let s = c.args.inner.now in
+    let v = S.sound s c.parse_view-v.ensures (not-false _ c.if-not-v.false) in record {
+      shape = v.0;
+      strides = v.1;
+      map = L.sound_or (list32 c.count_up.result) (list_after (bytes "dim_map=[") s) (M.sound_list (filled (count_up 0 c.parse_view-v.result.tile.row.len)) c.count_up.ensures) c.parse_i32_list_after-map.ensures;
+      traversal = L.sound_or (list32 c.ones.result) (list_after (bytes "traversal_strides=[") s) (M.sound_list (filled (replicate c.parse_view-v.result.tile.row.len (pos 1))) c.ones.ensures) c.parse_i32_list_after-traversal.ensures;
+      sparse = M.sound_one unused c.none32.ensures (omega arith);
+    })
+    (λ c. let a = c.args in
+    c.view_of.ensures ∙ ap (answered a.marked) (S.strided_is a.inner.now c.parse_view-v.ensures (not-false _ c.if-not-v.false) refl
+    c.count_up.ensures c.parse_i32_list_after-map.ensures c.ones.ensures c.parse_i32_list_after-traversal.ensures c.none32.ensures)

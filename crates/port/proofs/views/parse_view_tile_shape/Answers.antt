@@ -23,11 +23,14 @@ slice_bounds-find-start c = omega (arith, P.fits c.requires (search rules))
 pub slice_bounds-tile_entries-count : goal.slice_bounds-tile_entries-count
 slice_bounds-tile_entries-count c = omega (arith, L.next_within (bytes "tile=(") c.args.inner.now _ (P.placed_at c.requires (search rules)) (bytes ")") _ (sym c.find.ensures ∙ ap spot c.in-At.is))
 
-pub tile_entries-requires : goal.tile_entries-requires
-tile_entries-requires c = omega (arith, L.next_within (bytes "tile=(") c.args.inner.now _ (P.placed_at c.requires (search rules)) (bytes ")") _ (sym c.find.ensures ∙ ap spot c.in-At.is))
+pub slice_bounds-tile_entries-end : goal.slice_bounds-tile_entries-end
+slice_bounds-tile_entries-end c = omega (arith, L.next_within (bytes "tile=(") c.args.inner.now _ (P.placed_at c.requires (search rules)) (bytes ")") _ (sym c.find.ensures ∙ ap spot c.in-At.is))
 
-pub enum_told-1 : goal.enum_told-1
-enum_told-1 c = omega (arith, L.next_within (bytes "tile=(") c.args.inner.now _ (P.placed_at c.requires (search rules)) (bytes ")") _ (sym c.find.ensures ∙ ap spot c.in-Nowhere.is))
+pub overflow_add-result : goal.overflow_add-result
+overflow_add-result c = omega (arith, L.next_within (bytes "tile=(") c.args.inner.now _ (P.placed_at c.requires (search rules)) (bytes ")") _ (sym c.find.ensures ∙ ap spot c.in-At.is))
+
+pub returns-in-At : goal.returns-in-At
+returns-in-At c = S.tile_closed c.args.inner.now _ (P.placed_at c.requires (search rules)) _ (sym c.find.ensures ∙ ap spot c.in-At.is) _ c.tile_entries.ensures
 
 pub returns-in-Nowhere : goal.returns-in-Nowhere
-returns-in-Nowhere c = S.tile_closed c.args.inner.now _ (P.placed_at c.requires (search rules)) _ (sym c.find.ensures ∙ ap spot c.in-Nowhere.is) _ c.tile_entries.ensures
+returns-in-Nowhere c = S.tile_unclosed c.args.inner.now _ (P.placed_at c.requires (search rules)) (sym c.find.ensures ∙ ap spot c.in-Nowhere.is) _ c.no_tile-in-Nowhere.ensures
