@@ -6,11 +6,11 @@ use Rattle.port.proofs.Placing as L
 use Rattle.lexis.proofs.Lists.{rest}
 use Rattle.port.proofs.inner.plain_from.Goals as goal
 
-pub overflow_sub-inner : goal.overflow_sub-inner
-overflow_sub-inner c = let q = c.requires in sym (L.none_behind q.0 q.1 _ q.2 (search rules))
-
-pub overflow_add-x : goal.overflow_add-x
-overflow_add-x c = let q = c.requires in sym (L.first_behind q.0 q.1 _ q.2 (search rules) (search rules))
-
 pub returns : goal.returns
 returns c = let a = c.args in c.find_by.ensures ∙ ap (λ (u : Text). place (cut (bytes "tensor_view<") u)) (rest a.inner.now a.behind)
+
+pub returns-then-inner-b : goal.returns-then-inner-b
+returns-then-inner-b c = let q = c.requires in sym (L.none_behind q.0 q.1 _ q.2 (search rules))
+
+pub returns-then-behind-x : goal.returns-then-behind-x
+returns-then-behind-x c = let q = c.requires in sym (L.first_behind q.0 q.1 _ q.2 (search rules) (search rules))

@@ -10,6 +10,7 @@ use Rattle.lexis.proofs.Seeking.{unshifted}
 use Rattle.port.proofs.Removal.{sought, mark_is}
 use Rattle.port.proofs.Spotting as L
 use Rattle.port.proofs.marks.find_mark.Goals as goal
+use Rattle.port.proofs.marks.find_mark.Goals.{then-from-e+else-begins, else-from-e}
 
 pub loop-from-init : goal.loop-from-init
 loop-from-init c = let s = c.args.text.now in (search rules, ap (λ m. place (cut m s)) mark_is ∙ unshifted (place (cut sought s)))
@@ -30,5 +31,5 @@ pub loop-from-preserved : goal.loop-from-preserved
 loop-from-preserved c = let l = c.loop-from in (
   search rules,
   l.invariant.1 ∙ L.onward _ l.from l.invariant.0 c.seek-h.ensures c.seek-e.ensures (search rules)
-      (λ k. ⊎_elim (λ w. sym w.4.left ∙ w.3.ensures) (λ w. let f : ⊥ = omega (arith, w.left) in absurd f) c.if-from-e.branch),
+      (λ k. elim c.if-from-e.branch [ then-from-e+else-begins w ↦ sym w.if-begins.false ∙ w.begins.ensures | else-from-e w ↦ let f : ⊥ = omega arith in absurd f ]),
 )

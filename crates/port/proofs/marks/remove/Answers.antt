@@ -32,10 +32,6 @@ pub slice_bounds-copy-end-in-At : goal.slice_bounds-copy-end-in-At
 slice_bounds-copy-end-in-At c = let t = c.loop-i.t.now in
     sym (length-take-le _ _ (omega (arith, L.seen_within t c.find_mark.ensures c.in-At.is)))
 
-pub copy-n-requires-in-At : goal.copy-n-requires-in-At
-copy-n-requires-in-At c = let t = c.loop-i.t.now in
-    omega (arith, L.seen_within t c.find_mark.ensures c.in-At.is, length-take c.i-1.given.0.0 t)
-
 pub overflow_add-t-in-At : goal.overflow_add-t-in-At
 overflow_add-t-in-At c = let t = c.loop-i.t.now in omega (arith, L.seen_within t c.find_mark.ensures c.in-At.is)
 
@@ -44,10 +40,6 @@ slice_bounds-t-count-in-At c = let t = c.loop-i.t.now in omega (arith, L.seen_wi
 
 pub slice_bounds-t-start-in-At : goal.slice_bounds-t-start-in-At
 slice_bounds-t-start-in-At c = let t = c.loop-i.t.now in omega (arith, L.seen_within t c.find_mark.ensures c.in-At.is)
-
-pub loop-i-smaller : goal.loop-i-smaller
-loop-i-smaller c = let t = c.loop-i.t.now in
-    L.shorter L.sought t c.i-1.given.0.0 (search rules) (L.seen t c.find_mark.ensures c.in-At.is)
 
 pub loop-i-preserved : goal.loop-i-preserved
 loop-i-preserved c = let l = c.loop-i in (
@@ -58,3 +50,7 @@ loop-i-preserved c = let l = c.loop-i in (
 pub returns-in-Nowhere : goal.returns-in-Nowhere
 returns-in-Nowhere c = let l = c.loop-i in let w = L.none_left _ _ (search rules) (search rules) l.invariant.1 (L.unseen l.t.now c.find_mark.ensures c.in-Nowhere.is) c.copy.ensures in
     (w.0, w.1 ∙ ap (λ (m : List ℕ). remove m c.args.text.now) (sym L.mark_is))
+
+pub loop-i-smaller : goal.loop-i-smaller
+loop-i-smaller c = let t = c.loop-i.t.now in
+    L.shorter L.sought t c.in-At.i (search rules) (L.seen t c.find_mark.ensures c.in-At.is)

@@ -12,13 +12,6 @@ loop-i-init c = L.begin c.none_yet-r.ensures c.seek_hot-i.ensures
 pub returns-then-d-eq0 : goal.returns-then-d-eq0
 returns-then-d-eq0 c = L.matched c.loop-i.invariant (search rules) c.if-b-eq62.true c.if-d-eq0.true
 
-pub deepened-d-requires : goal.deepened-d-requires
-deepened-d-requires c =
-    let g = c.loop-i.invariant in
-    let h = g.low in
-    let k = c.loop-i-test.true in
-    (search rules, ⊎_elim (λ w a b. w.1.left b) (λ w a b. w.left a) c.if-b-eq62.branch)
-
 pub sighted-r-requires : goal.sighted-r-requires
 sighted-r-requires c = (search rules, c.loop-i.invariant.sights)
 

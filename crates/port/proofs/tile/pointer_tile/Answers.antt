@@ -18,15 +18,15 @@ slice_bounds-parse_scalar-end c = let t = c.args.after.now in
 pub simple-requires : goal.simple-requires
 simple-requires c = (L.sized_sound c.args.before.now c.pointer_shape.ensures, M.sound_list unused c.none64.ensures)
 
+pub returns-in-Nowhere : goal.returns-in-Nowhere
+returns-in-Nowhere c = let a = c.args in
+    c.refuse-in-Nowhere.ensures ∙ ap (answered a.marked) (L.tile_none true _ refl (L.pointee_none a.after.now c.find.ensures c.in-Nowhere.is))
+
 pub returns-in-Is : goal.returns-in-Is
 returns-in-Is c = let a = c.args in let t = a.after.now in
-    c.simple.ensures ∙ ap (answered a.marked) (L.tile_some true _ refl (L.pointee_is t c.find.ensures c.in-Is.is c.parse_scalar.ensures c.in-Is.is)
+    c.simple.ensures ∙ ap (answered a.marked) (L.tile_some true _ refl (L.pointee_is t c.find.ensures c.in-At.is c.parse_scalar.ensures c.in-Is.is)
     c.pointer_shape.ensures c.none64.ensures)
 
 pub returns-in-Unknown : goal.returns-in-Unknown
 returns-in-Unknown c = let a = c.args in let t = a.after.now in
-    c.refuse.ensures ∙ ap (answered a.marked) (L.tile_none true _ refl (L.pointee_is t c.find.ensures c.in-Unknown.is c.parse_scalar.ensures c.in-Unknown.is))
-
-pub returns-in-Nowhere : goal.returns-in-Nowhere
-returns-in-Nowhere c = let a = c.args in
-    c.refuse-in-Nowhere.ensures ∙ ap (answered a.marked) (L.tile_none true _ refl (L.pointee_none a.after.now c.find.ensures c.in-Nowhere.is))
+    c.refuse.ensures ∙ ap (answered a.marked) (L.tile_none true _ refl (L.pointee_is t c.find.ensures c.in-At.is c.parse_scalar.ensures c.in-Unknown.is))

@@ -21,7 +21,7 @@ slice_bounds-trim-end-2 t c = sym (length-take-le c.args.n c.args.a.now (search 
 
 pub without_marks-m-requires : goal.without_marks-m-requires
 without_marks-m-requires t c = let s = take c.args.n c.args.a.now in
-    omega (arith, ap length c.trim-s.ensures, trim_within s, length-take c.args.n c.args.a.now, c.requires.1.1)
+    omega (arith, ap length c.trim-s.ensures, trim_within s, length-take c.args.n c.args.a.now, c.requires.1)
 
 pub to_read-t-requires : goal.to_read-t-requires
 to_read-t-requires t c = c.without_marks-m.ensures

@@ -5,10 +5,6 @@ use Rattle.port.specs.Forms.{shorthand}
 use Rattle.port.proofs.Dispatching as L
 use Rattle.port.proofs.types.parse_last.Goals as goal
 
-pub parse_ptr-requires : goal.parse_ptr-requires
-unfolding forms shorthand
-parse_ptr-requires c = L.applied c.applies-q.ensures c.if-q.true
-
 pub returns-then-q : goal.returns-then-q
 unfolding forms shorthand
 returns-then-q c = L.decides (L.untried (drop 5 shorthand) _ c.args.t.now) c.args.marked _ c.strip_prefix_suffix.ensures c.parse_ptr.ensures

@@ -17,11 +17,5 @@ pub slice_bounds-parse_smalls-end : goal.slice_bounds-parse_smalls-end
 slice_bounds-parse_smalls-end c = let g = L.told c.list_after.ensures c.in-Between.is in omega arith
 
 pub returns-in-Between : goal.returns-in-Between
-returns-in-Between c = let n = c.a-1.given in let s = c.args.inner.now in
-    L.entries_are (take (n.0.1.0 - n.0.0) (drop n.0.0 s)) c.parse_smalls.ensures ∙ L.laid_as c.list_after.ensures n.1 (list32 c.args.own_val)
-
-pub returns-in-Unclosed : goal.returns-in-Unclosed
-returns-in-Unclosed c = L.laid_as c.list_after.ensures c.in-Unclosed.is (list32 c.args.own_val)
-
-pub returns-in-Absent : goal.returns-in-Absent
-returns-in-Absent c = L.laid_as c.list_after.ensures c.in-Absent.is (list32 c.args.own_val)
+returns-in-Between c = let n = c.in-Between in let s = c.args.inner.now in
+    L.entries_are (take (n.e - n.a) (drop n.a s)) c.parse_smalls.ensures ∙ L.laid_as c.list_after.ensures n.is (list32 c.args.own)

@@ -31,16 +31,6 @@ slice_bounds-parse_smalls-start c = let g = L.told c.list_after.ensures c.in-Bet
 pub slice_bounds-parse_smalls-end : goal.slice_bounds-parse_smalls-end
 slice_bounds-parse_smalls-end c = let g = L.told c.list_after.ensures c.in-Between.is in omega arith
 
-pub view_of-requires : goal.view_of-requires
-view_of-requires c = let s = c.args.inner.now in let n = c.a-1.given.0 in
-    let v = S.sound s c.parse_view-v.ensures (not-false _ c.if-not-v.false) in record {
-      shape = v.0;
-      strides = v.1;
-      map = M.sound_list (smalls (pos 0) (split 44 (take (n.1.0 - n.0) (drop n.0 s)))) c.parse_smalls.ensures;
-      traversal = M.sound_list unused c.none32.ensures;
-      sparse = M.sound_one unused c.none32-in-Between.ensures (omega arith);
-    }
-
 pub view_of-requires-in-Absent : goal.view_of-requires-in-Absent
 view_of-requires-in-Absent c = let v = S.sound c.args.inner.now c.parse_view-v.ensures (not-false _ c.if-not-v.false) in record {
   shape = v.0;
@@ -49,12 +39,6 @@ view_of-requires-in-Absent c = let v = S.sound c.args.inner.now c.parse_view-v.e
   traversal = M.sound_list unused c.none32-in-Absent.ensures;
   sparse = M.sound_one unused c.none32-in-Absent-2.ensures (omega arith);
 }
-
-pub returns-in-Between : goal.returns-in-Between
-returns-in-Between c = let a = c.args in let n = c.a-1.given in
-    c.view_of.ensures ∙ ap (answered a.marked) (S.partition_listed a.inner.now c.parse_view-v.ensures (not-false _ c.if-not-v.false)
-    refl c.none32.ensures c.none32-in-Between.ensures
-    n.0.0 n.0.1.0 (L.told c.list_after.ensures n.1) c.parse_smalls.ensures)
 
 pub returns-in-Unclosed : goal.returns-in-Unclosed
 returns-in-Unclosed c = let a = c.args in
@@ -66,3 +50,19 @@ returns-in-Absent c = let a = c.args in
     c.view_of-in-Absent.ensures ∙ ap (answered a.marked) (S.partition_absent a.inner.now c.parse_view-v.ensures (not-false _ c.if-not-v.false)
     refl c.none32-in-Absent.ensures c.none32-in-Absent-2.ensures
     (L.told c.list_after.ensures c.in-Absent.is) c.count_up.ensures)
+
+pub view_of-requires : goal.view_of-requires
+view_of-requires c = let s = c.args.inner.now in let n = c.in-Between in
+    let v = S.sound s c.parse_view-v.ensures (not-false _ c.if-not-v.false) in record {
+      shape = v.0;
+      strides = v.1;
+      map = M.sound_list (smalls (pos 0) (split 44 (take (n.e - n.a) (drop n.a s)))) c.parse_smalls.ensures;
+      traversal = M.sound_list unused c.none32.ensures;
+      sparse = M.sound_one unused c.none32-in-Between.ensures (omega arith);
+    }
+
+pub returns-in-Between : goal.returns-in-Between
+returns-in-Between c = let a = c.args in let n = c.in-Between in
+    c.view_of.ensures ∙ ap (answered a.marked) (S.partition_listed a.inner.now c.parse_view-v.ensures (not-false _ c.if-not-v.false)
+    refl c.none32.ensures c.none32-in-Between.ensures
+    n.a n.e (L.told c.list_after.ensures n.is) c.parse_smalls.ensures)

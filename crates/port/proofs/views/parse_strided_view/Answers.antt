@@ -18,9 +18,6 @@ pub returns-then-not-v : goal.returns-then-not-v
 returns-then-not-v c = let a = c.args in
     c.refuse.ensures ∙ ap (answered a.marked) (S.no_strided a.inner.now c.parse_view-v.ensures (not-true _ c.if-not-v.true))
 
-pub count_up-requires : goal.count_up-requires
-count_up-requires c = c.requires.map
-
 pub parse_i32_list_after-traversal-requires : goal.parse_i32_list_after-traversal-requires
 parse_i32_list_after-traversal-requires c = c.requires.traversal
 
@@ -32,7 +29,9 @@ view_of-requires c = let s = c.args.inner.now in
       map = L.sound_or (list32 c.count_up.result) (list_after (bytes "dim_map=[") s) (M.sound_list (filled (count_up 0 c.parse_view-v.result.tile.row.len)) c.count_up.ensures) c.parse_i32_list_after-map.ensures;
       traversal = L.sound_or (list32 c.ones.result) (list_after (bytes "traversal_strides=[") s) (M.sound_list (filled (replicate c.parse_view-v.result.tile.row.len (pos 1))) c.ones.ensures) c.parse_i32_list_after-traversal.ensures;
       sparse = M.sound_one unused c.none32.ensures (omega arith);
-    })
-    (λ c. let a = c.args in
+    }
+
+pub returns : goal.returns
+returns c = let a = c.args in
     c.view_of.ensures ∙ ap (answered a.marked) (S.strided_is a.inner.now c.parse_view-v.ensures (not-false _ c.if-not-v.false) refl
     c.count_up.ensures c.parse_i32_list_after-map.ensures c.ones.ensures c.parse_i32_list_after-traversal.ensures c.none32.ensures)

@@ -34,3 +34,6 @@ returns-in-At c = S.tile_closed c.args.inner.now _ (P.placed_at c.requires (sear
 
 pub returns-in-Nowhere : goal.returns-in-Nowhere
 returns-in-Nowhere c = S.tile_unclosed c.args.inner.now _ (P.placed_at c.requires (search rules)) (sym c.find.ensures ∙ ap spot c.in-Nowhere.is) _ c.no_tile-in-Nowhere.ensures
+
+pub overflow_add-end : goal.overflow_add-end
+overflow_add-end c = omega (arith, L.next_within (bytes "tile=(") c.args.inner.now _ (P.placed_at c.requires (search rules)) (bytes ")") _ (sym c.find.ensures ∙ ap spot c.in-At.is))
