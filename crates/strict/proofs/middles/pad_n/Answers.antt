@@ -1,0 +1,17 @@
+-- `pad_n` meets its contract: `nan` by its second byte, else one of two.
+use Rattle.strict.proofs.Tree as L
+use Rattle.strict.specs.Words as W
+use Rattle.strict.specs.Views as Y
+use Rattle.grammar.specs.Table.{advance}
+use mathlib.Core.Path.{sym, ◌∙◌}
+use native.Mathlib.Omega.{arith}
+use Rattle.strict.proofs.middles.pad_n.Goals as goal
+
+pub returns-then-peek-eq97 : goal.returns-then-peek-eq97
+returns-then-peek-eq97 c κs = let a = c.args in let k = sym c.peek.ensures ∙ c.if-peek-eq97.true in let h = L.within a.s.now a.at 97 k tt in omega arith
+
+pub fit-p-requires : goal.fit-p-requires
+fit-p-requires c = let a = c.args in let k = sym c.peek.ensures ∙ c.if-peek-eq97.true in L.down a.s.now a.at 97 (advance 110 (W.entries Y.pads)) k tt c.fit.ensures
+
+pub returns : goal.returns
+returns c κs = c.requires
