@@ -20,3 +20,13 @@ returns-then-k-lt22 c = let a = c.args in let s = a.s.now in let n = c.read_core
       inside = m.ensures.inside;
       onward = omega arith;
     }
+
+pub returns : goal.returns
+unfolding choose among
+returns c = let a = c.args in let s = a.s.now in let n = c.read_core_name-k in let m = c.read_pointee in let o = n.ensures.onward in let q = m.ensures.onward in
+    record {
+      same = L.core_is s a.from ∙ H.chain s (choose I.kerns) I.core_of n.result.word a.from n.result.end n.ensures.same
+          ∙ L.core_point s n.result.end n.result.word (search rules) ∙ m.ensures.same;
+      inside = m.ensures.inside;
+      onward = omega arith;
+    }

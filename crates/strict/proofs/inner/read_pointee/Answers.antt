@@ -9,12 +9,6 @@ use mathlib.Core.Path.{◌∙◌}
 use native.Mathlib.Omega.{arith}
 use Rattle.strict.proofs.inner.read_pointee.Goals as goal
 
-pub read_name-n-requires : goal.read_name-n-requires
-read_name-n-requires c = c.requires.0
-
-pub fork-m-requires : goal.fork-m-requires
-fork-m-requires c = (c.read_name-n.ensures.inside, c.requires.1)
-
 pub returns : goal.returns
 returns c = let a = c.args in let s = a.s.now in let n = c.read_name-n in let m = c.fork-m in let f = among ((a.bare.now ↝ 0) ∷ (a.marked.now ↝ 1) ∷ []) in let o = n.ensures.onward in let q = m.ensures.onward in
     record {

@@ -18,7 +18,7 @@ returns-then-k-lt2 c = let a = c.args in let s = a.s.now in let n = c.read_open-
     record {
       same = L.rest_zero s a.from a.rank c.if-rank-eq0.true ∙ H.chain s (choose I.opened) I.begun n.result.word a.from n.result.end n.ensures.same
           ∙ L.begun_end s n.result.end n.result.word (search rules)
-          ∙ ap (λ (x : List ℤ). C.valued s (I.rest_of (row x 0) n.result.word) n.result.end) (sym c.requires.1);
+          ∙ ap (λ (x : List ℤ). C.valued s (I.rest_of (row x 0) n.result.word) n.result.end) (sym c.requires.strides_value);
       inside = n.ensures.inside;
       onward = omega arith;
     }
@@ -35,4 +35,9 @@ returns-then-rank-eq0 c = let a = c.args in let s = a.s.now in let n = c.read_op
 
 pub returns : goal.returns
 unfolding choose among
-returns c κs = (c.requires.0, tt)
+returns c = let a = c.args in let s = a.s.now in let n = c.read_two-k in let m = c.read_strides-2 in let o = n.ensures.onward in let q = m.ensures.onward in
+    record {
+      same = L.rest_some s a.from a.rank c.if-rank-eq0.false ∙ H.chain s (choose I.must) I.given n.result.word a.from n.result.end n.ensures.same ∙ m.ensures.same;
+      inside = m.ensures.inside;
+      onward = omega arith;
+    }

@@ -12,10 +12,10 @@ use borrow.Author.Rules.{rules}
 use Rattle.strict.proofs.list.read_list64.Goals as goal
 
 pub returns-then-s-from : goal.returns-then-s-from
-returns-then-s-from c = let a = c.args in H.idle a.s.now (λ t. mapped (pushes nothing) (list64 t)) a.from (row a.out.now 0) (search rules) c.requires.0
+returns-then-s-from c = let a = c.args in H.idle a.s.now (λ t. mapped (pushes nothing) (list64 t)) a.from (row a.out.now 0) (search rules) c.requires.from_in_bounds
 
 pub returns-then-s-n : goal.returns-then-s-n
 returns-then-s-n c = let a = c.args in L.no_first commas64 C.dimension (search rules) c.read_dim-n.ensures (search rules) (row a.out.now 0)
 
 pub returns : goal.returns
-returns c = let a = c.args in let u = c.read_dim-n.result in let v = u.value in let z : to_z w64 (of_z w64 v) ≡ v = search rules in L.led commas64 C.dimension (search rules) c.read_dim-n.ensures (search rules) c.requires.1 c.put64.ensures z refl c.read_commas64.ensures
+returns c = let a = c.args in let u = c.read_dim-n.result in let v = u.value in let z : to_z w64 (of_z w64 v) ≡ v = search rules in L.led commas64 C.dimension (search rules) c.read_dim-n.ensures (search rules) c.requires.out_value c.put64.ensures z refl c.read_commas64.ensures

@@ -14,7 +14,7 @@ use borrow.Author.Rules.{rules}
 use Rattle.strict.proofs.list.read_shape.Goals as goal
 
 pub returns-then-s-from : goal.returns-then-s-from
-returns-then-s-from c = let a = c.args in H.idle a.s.now (λ t. mapped (pushes nothing) (dims64 t)) a.from (row a.out.now 0) (search rules) c.requires.0
+returns-then-s-from c = let a = c.args in H.idle a.s.now (λ t. mapped (pushes nothing) (dims64 t)) a.from (row a.out.now 0) (search rules) c.requires.from_in_bounds
 
 pub loop-i-init : goal.loop-i-init
 loop-i-init c = record { inside = search rules; onward = search rules; few = search rules; kept = refl; same = refl }
@@ -23,13 +23,13 @@ pub shape_of-out-then-not-starts : goal.shape_of-out-then-not-starts
 shape_of-out-then-not-starts c = c.loop-i.invariant.kept
 
 pub returns-then-not-starts : goal.returns-then-not-starts
-returns-then-not-starts c = L.shaped dims64 (search rules) c.requires.1 (L.stops I.dims64_are c.loop-i.invariant (search rules) (sym c.starts.ensures ∙ c.if-not-starts.true))
+returns-then-not-starts c = L.shaped dims64 (search rules) c.requires.out_value (L.stops I.dims64_are c.loop-i.invariant (search rules) (sym c.starts.ensures ∙ c.if-not-starts.true))
 
 pub shape_of-out-then-s-m : goal.shape_of-out-then-s-m
 shape_of-out-then-s-m c = c.loop-i.invariant.kept
 
 pub returns-then-s-m : goal.returns-then-s-m
-returns-then-s-m c = L.shaped dims64 (search rules) c.requires.1 (L.sticks I.dims64_are c.loop-i.invariant (search rules) (sym c.starts.ensures ∙ c.if-not-starts.false) c.read_dim_x-m.ensures (search rules))
+returns-then-s-m c = L.shaped dims64 (search rules) c.requires.out_value (L.sticks I.dims64_are c.loop-i.invariant (search rules) (sym c.starts.ensures ∙ c.if-not-starts.false) c.read_dim_x-m.ensures (search rules))
 
 pub overflow_add-n : goal.overflow_add-n
 overflow_add-n c = let l = c.loop-i in let x = l.invariant.few in search rules
@@ -44,4 +44,4 @@ pub shape_of-out : goal.shape_of-out
 shape_of-out c = c.loop-i.invariant.kept
 
 pub returns : goal.returns
-returns c = L.shaped dims64 (search rules) c.requires.1 (L.ends I.dims64_are c.loop-i.invariant (search rules))
+returns c = L.shaped dims64 (search rules) c.requires.out_value (L.ends I.dims64_are c.loop-i.invariant (search rules))

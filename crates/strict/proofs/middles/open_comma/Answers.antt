@@ -11,8 +11,8 @@ use Rattle.strict.proofs.middles.open_comma.Goals as goal
 pub returns-then-s-from : goal.returns-then-s-from
 returns-then-s-from c = let a = c.args in L.idle a.s.now (W.among (advance 44 (W.entries I.opened))) a.from c.found.result (search rules) c.requires c.found.ensures
 
-pub fit-requires : goal.fit-requires
-fit-requires c = let a = c.args in let k = sym c.peek.ensures ∙ c.if-peek-eq32.true in (L.within_place a.s.now a.from 32 k tt, tt)
+pub returns-then-peek-eq32 : goal.returns-then-peek-eq32
+returns-then-peek-eq32 c = let a = c.args in let k = sym c.peek.ensures ∙ c.if-peek-eq32.true in C.begin a.s.now (W.among (advance 44 (W.entries I.opened))) a.from (search rules) (L.down_next a.s.now a.from 32 (advance 44 (W.entries I.opened)) k tt c.fork.ensures)
 
 pub returns : goal.returns
-returns c = let a = c.args in let k = sym c.peek.ensures ∙ c.if-peek-eq32.true in C.begin a.s.now (W.among (advance 44 (W.entries I.opened))) a.from (search rules) (L.down_next a.s.now a.from 32 (advance 44 (W.entries I.opened)) k tt c.fork.ensures)
+returns c = let a = c.args in C.begin a.s.now (W.among (advance 44 (W.entries I.opened))) a.from (search rules) (L.but a.s.now a.from 32 (advance 44 (W.entries I.opened)) (λ q. c.if-peek-eq32.false (c.peek.ensures ∙ q)) c.fit.ensures)

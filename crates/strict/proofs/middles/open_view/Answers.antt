@@ -7,13 +7,11 @@ use mathlib.Core.List.{◌∷◌}
 use Prim.Native.Nat.{◌+◌}
 use mathlib.Core.Path.{sym, ◌∙◌}
 use native.Mathlib.Omega.{arith}
+use borrow.Author.Rules.{rules}
 use Rattle.strict.proofs.middles.open_view.Goals as goal
 
 pub returns-then-peek-eq112 : goal.returns-then-peek-eq112
-returns-then-peek-eq112 c κs = let a = c.args in let k = sym c.peek.ensures ∙ c.if-peek-eq112.true in let h = L.within a.s.now a.at 112 k tt in omega arith
-
-pub overflow_add-k : goal.overflow_add-k
-overflow_add-k c = let a = c.args in let k = sym c.peek.ensures ∙ c.if-peek-eq112.true in L.down a.s.now a.at 112 ((bytes "padding_value=" ↝ a.k) ∷ Y.tensors (a.k + 2)) k tt c.fit.ensures
+returns-then-peek-eq112 c = let a = c.args in let k = sym c.peek.ensures ∙ c.if-peek-eq112.true in L.down a.s.now a.at 112 ((bytes "padding_value=" ↝ a.k) ∷ Y.tensors (a.k + 2)) k tt c.fit.ensures
 
 pub returns : goal.returns
-returns c κs = (c.requires.0, let h = c.requires.1 in omega arith)
+returns c = let a = c.args in L.but a.s.now a.at 112 ((bytes "padding_value=" ↝ a.k) ∷ Y.tensors (a.k + 2)) (λ q. c.if-peek-eq112.false (c.peek.ensures ∙ q)) c.open_tensor.ensures

@@ -5,15 +5,8 @@ use Rattle.strict.specs.Words as W
 use Rattle.strict.specs.Views as Y
 use Rattle.strict.proofs.Viewing as G
 use mathlib.Core.Path.{◌∙◌}
+use borrow.Author.Rules.{rules}
 use Rattle.strict.proofs.middles.read_mid.Goals as goal
-
-pub mid_comma-requires : goal.mid_comma-requires
-unfolding W.choose W.among
-mid_comma-requires c = c.requires
-
-pub returns-then-tile : goal.returns-then-tile
-unfolding W.choose W.among
-returns-then-tile c κs = c.read_word-c.ensures.inside
 
 pub returns-then-tile : goal.returns-then-tile
 unfolding W.choose W.among
@@ -21,4 +14,4 @@ returns-then-tile c = let a = c.args in let t = L.via_next a.s.now a.from (bytes
 
 pub returns : goal.returns
 unfolding W.choose W.among
-returns c κs = c.requires
+returns c = let a = c.args in let t = L.via_next a.s.now a.from (bytes "],") (W.entries Y.walk_mids) tt c.read_word-c-2.ensures c.mid_comma-2.ensures in record { same = G.mid_walk a.s.now a.from a.tile c.if-tile.false ∙ t.same; inside = t.inside; onward = t.onward }

@@ -1,6 +1,7 @@
 -- `read_open` meets its contract: the end, or what follows a comma.
 use Rattle.strict.proofs.Cursors as C
 use Rattle.strict.proofs.Tree as L
+use Rattle.lexis.specs.Text.{bytes}
 use Rattle.strict.specs.Words as W
 use Rattle.strict.specs.Inner as I
 use Prim.Native.Nat.{◌+◌}
@@ -18,4 +19,4 @@ returns-then-peek-eq62 c = let a = c.args in let k = sym c.peek.ensures ∙ c.if
 
 pub returns : goal.returns
 unfolding W.choose W.among
-returns c κs = c.fit-c.ensures.inside
+returns c = let a = c.args in C.begin a.s.now (W.choose I.opened) a.from (search rules) (L.but a.s.now a.from 62 (W.entries I.opened) (λ q. c.if-peek-eq62.false (c.peek.ensures ∙ q)) (L.via a.s.now a.from (bytes ",") (L.others 62 (W.entries I.opened)) tt c.fit-c.ensures c.open_comma.ensures))

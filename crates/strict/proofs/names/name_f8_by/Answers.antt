@@ -3,27 +3,20 @@ use Rattle.strict.proofs.Tree as L
 use Rattle.strict.specs.Inner as I
 use Rattle.lexis.specs.Text.{bytes}
 use Prim.Native.Nat.{◌+◌}
+use mathlib.Core.List.{[], ◌∷◌}
 use mathlib.Core.Path.{sym, ◌∙◌}
 use native.Mathlib.Omega.{arith}
+use borrow.Author.Rules.{rules}
 use Rattle.strict.proofs.names.name_f8_by.Goals as goal
 
-pub fit-requires : goal.fit-requires
-fit-requires c = let a = c.args in let k = sym c.peek.ensures ∙ c.in-52.keys1 in let h = L.within a.s.now a.at 52 k tt in omega arith
-
-pub fit-p-requires : goal.fit-p-requires
-fit-p-requires c = let a = c.args in let k = sym c.peek.ensures ∙ c.in-52.keys2 in let h = L.within a.s.now a.at 53 k tt in omega arith
-
-pub overflow_add-at-in-56 : goal.overflow_add-at-in-56
-overflow_add-at-in-56 c κs = (c.fit-p.ensures.inside, c.requires.1.0)
-
-pub none-requires : goal.none-requires
-none-requires c = let a = c.args in let k = sym c.peek.ensures ∙ c.in-52.keys3 in let h = L.within a.s.now a.at 56 k tt in omega arith
+pub returns-in-52 : goal.returns-in-52
+returns-in-52 c = let a = c.args in let k = sym c.peek.ensures ∙ c.in-52.is in L.down a.s.now a.at 52 (I.eights a.w.now a.m.now a.v.now a.x.now a.k) k tt c.fit.ensures
 
 pub returns-in-53 : goal.returns-in-53
-returns-in-53 c = let a = c.args in let k = sym c.peek.ensures ∙ c.in-52.keys1 in L.down a.s.now a.at 52 (I.eights a.w.now a.m.now a.v.now a.x.now a.k) k tt c.fit.ensures
+returns-in-53 c = let a = c.args in let k = sym c.peek.ensures ∙ c.in-53.is in L.down a.s.now a.at 53 (I.eights a.w.now a.m.now a.v.now a.x.now a.k) k tt (L.two_at (bytes "2") (13 + a.k) a.v.now (19 + a.k) a.s.now (a.at + 1) a.m.now (L.within a.s.now a.at 53 k tt) c.fit-p.ensures c.fork.ensures)
 
 pub returns-in-56 : goal.returns-in-56
-returns-in-56 c = let a = c.args in let k = sym c.peek.ensures ∙ c.in-52.keys2 in L.down a.s.now a.at 53 (I.eights a.w.now a.m.now a.v.now a.x.now a.k) k tt (L.two_at (bytes "2") (13 + a.k) a.v.now (19 + a.k) a.s.now (a.at + 1) a.m.now (L.within a.s.now a.at 53 k tt) c.fit-p.ensures c.fork.ensures)
+returns-in-56 c = let a = c.args in let k = sym c.peek.ensures ∙ c.in-56.is in L.down a.s.now a.at 56 (I.eights a.w.now a.m.now a.v.now a.x.now a.k) k tt c.fit-in-56.ensures
 
 pub returns-in_default : goal.returns-in_default
-returns-in_default c = let a = c.args in let k = sym c.peek.ensures ∙ c.in-52.keys3 in L.down a.s.now a.at 56 (I.eights a.w.now a.m.now a.v.now a.x.now a.k) k tt c.fit-in-56.ensures
+returns-in_default c = let a = c.args in L.stop a.s.now a.at (I.eights a.w.now a.m.now a.v.now a.x.now a.k) (52 ∷ 53 ∷ 56 ∷ []) c.none.result tt c.requires.at_in_bounds ((λ e. omega arith), ((λ e. omega arith), ((λ e. omega arith), tt))) c.none.ensures

@@ -14,13 +14,10 @@ use Rattle.strict.proofs.view.read_last.Goals as goal
 pub returns-then-sparse : goal.returns-then-sparse
 returns-then-sparse c = let a = c.args in let s = a.s.now in let n = c.read_sparse-n in let y = n.result.value in let z : to_z w32 (of_z w32 y) ≡ y = search rules in
     record {
-      same = L.ends_sparse s a.from a.sparse c.if-sparse.true ∙ H.last s Y.sparse_part (Y.closed nothing) y a.from n.result.end n.ensures.same ∙ (λ i. C.valued s (Y.closed (row (sym c.requires.1 i) 0) (sym z i)) n.result.end);
+      same = L.ends_sparse s a.from a.sparse c.if-sparse.true ∙ H.last s Y.sparse_part (Y.closed nothing) y a.from n.result.end n.ensures.same ∙ (λ i. C.valued s (Y.closed (row (sym c.requires.map_value i) 0) (sym z i)) n.result.end);
       inside = n.ensures.inside;
       onward = n.ensures.onward;
     }
-
-pub read_map-m-requires : goal.read_map-m-requires
-read_map-m-requires c = (c.requires.0, c.requires.1)
 
 pub returns : goal.returns
 returns c = let a = c.args in let s = a.s.now in let n = c.read_map-m in

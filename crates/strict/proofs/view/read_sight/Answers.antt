@@ -12,9 +12,6 @@ use native.Mathlib.Omega.{arith}
 use borrow.Author.Rules.{rules}
 use Rattle.strict.proofs.view.read_sight.Goals as goal
 
-pub read_tensor-tensor-requires : goal.read_tensor-tensor-requires
-read_tensor-tensor-requires c = (c.read_lead-l.ensures.inside, (c.requires.1.0, c.requires.1.1))
-
 pub returns-then-k-lt2 : goal.returns-then-k-lt2
 returns-then-k-lt2 c = let a = c.args in let s = a.s.now in let n = c.read_pad-p in let w = c.read_lead-l in let m = c.read_tensor-tensor in let o = n.ensures.onward in let p = w.ensures.onward in let q = m.ensures.onward in
     record {
@@ -24,9 +21,6 @@ returns-then-k-lt2 c = let a = c.args in let s = a.s.now in let n = c.read_pad-p
       inside = m.ensures.inside;
       onward = omega arith;
     }
-
-pub read_tensor-tensor-requires-2 : goal.read_tensor-tensor-requires-2
-read_tensor-tensor-requires-2 c = (c.requires.0, (c.requires.1.0, c.requires.1.1))
 
 pub returns : goal.returns
 returns c = let a = c.args in let s = a.s.now in let m = c.read_tensor-tensor-2 in let q = m.ensures.onward in

@@ -13,21 +13,6 @@ use native.Mathlib.Omega.{arith}
 use borrow.Author.Rules.{rules}
 use Rattle.strict.proofs.whole.read_view.Goals as goal
 
-pub read_list32-t-requires : goal.read_list32-t-requires
-read_list32-t-requires c = (c.requires.0, c.requires.1.1.1.0)
-
-pub read_walk-w-requires : goal.read_walk-w-requires
-read_walk-w-requires c = (c.read_list32-t.ensures.inside, c.requires.1.1.1.1.1)
-
-pub read_mid-m-requires : goal.read_mid-m-requires
-read_mid-m-requires c = c.read_Walk.ensures.inside
-
-pub read_sight-sight-requires : goal.read_sight-sight-requires
-read_sight-sight-requires c = (c.read_mid-m.ensures.inside, (c.requires.1.0, c.requires.1.1.0))
-
-pub read_last-e-requires : goal.read_last-e-requires
-read_last-e-requires c = (c.read_sight-sight.ensures.inside, c.requires.1.1.1.1.0)
-
 pub returns : goal.returns
 returns c = let z : to_z w32 (of_z w32 c.read_last-e.result.sparse) ≡ c.read_last-e.result.sparse = search rules in let a = c.args in let s = a.s.now in let t = c.read_list32-t in let w = c.read_Walk in let m = c.read_mid-m in let v = c.read_sight-sight in let e = c.read_last-e in
     let o1 = t.ensures.onward in let o2 = w.ensures.onward in let o3 = m.ensures.onward in let o4 = v.ensures.onward in let o5 = e.ensures.onward in let y = e.result.sparse in

@@ -2,11 +2,5 @@
 use Rattle.strict.proofs.Tree as L
 use Rattle.strict.proofs.words.read_two.Goals as goal
 
-pub read_word-p-requires : goal.read_word-p-requires
-read_word-p-requires c = c.requires.0
-
-pub fork-requires : goal.fork-requires
-fork-requires c = (c.read_word-p.ensures.inside, c.requires.1)
-
 pub returns : goal.returns
 returns c = let a = c.args in L.two a.v.now 0 a.w.now 1 a.s.now a.from a.lead.now c.read_word-p.ensures c.fork.ensures
