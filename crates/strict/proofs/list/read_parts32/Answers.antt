@@ -3,7 +3,6 @@ use Rattle.strict.proofs.Listing as L
 use Rattle.strict.proofs.Items as I
 use Rattle.strict.specs.Cursor as C
 use mathlib.Core.Bool.{cond}
-use mathlib.Core.Logic.{⊎_elim}
 use mir.Syntax.{w32}
 use mir.Val.{to_z, of_z}
 use Prim.Native.Nat.{◌+◌, ◌-◌, ◌^◌}
@@ -11,9 +10,10 @@ use mathlib.Core.Path.{◌≡◌, refl, sym, ap, ◌∙◌}
 use native.Mathlib.Omega.{arith}
 use borrow.Author.Rules.{rules}
 use Rattle.strict.proofs.list.read_parts32.Goals as goal
+use Rattle.strict.proofs.list.read_parts32.Goals.{then-x, else-x}
 
 pub loop-i-init : goal.loop-i-init
-loop-i-init c = (record { inside = search rules; onward = search rules; few = search rules; kept = refl; same = refl }, ⊎_elim (λ w. w.1 ∙ sym (ap (λ k. cond k 120 44) w.0.taken)) (λ w. w.1 ∙ sym (ap (λ k. cond k 120 44) w.0.left)) c.if-x.branch)
+loop-i-init c = (record { inside = search rules; onward = search rules; few = search rules; kept = refl; same = refl }, elim c.if-x.branch [ then-x w ↦ w.sep-is ∙ sym (ap (λ k. cond k 120 44) w.if-x.true) | else-x w ↦ w.sep-is ∙ sym (ap (λ k. cond k 120 44) w.if-x.false) ])
 
 pub shape_of-out-then-s-i : goal.shape_of-out-then-s-i
 shape_of-out-then-s-i c = c.loop-i.invariant.0.kept
