@@ -4,8 +4,6 @@ use Rattle.strict.specs.Words as W
 use Rattle.strict.specs.Whole as M
 use Rattle.grammar.specs.Table.{advance}
 use mathlib.Core.Path.{sym, ◌∙◌}
-use native.Mathlib.Omega.{arith}
-use borrow.Author.Rules.{rules}
 use Rattle.strict.proofs.heads.head_t.Goals as goal
 
 pub returns-then-peek-eq102 : goal.returns-then-peek-eq102

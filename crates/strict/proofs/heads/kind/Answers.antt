@@ -4,7 +4,6 @@ use Rattle.strict.specs.Whole as M
 use mathlib.Core.List.{[], ◌∷◌}
 use mathlib.Core.Path.{sym, ◌∙◌}
 use native.Mathlib.Omega.{arith}
-use borrow.Author.Rules.{rules}
 use Rattle.strict.proofs.heads.kind.Goals as goal
 
 pub returns-in-103 : goal.returns-in-103

@@ -5,7 +5,6 @@ use Rattle.grammar.specs.Table.{advance}
 use mathlib.Core.List.{[], ◌∷◌}
 use mathlib.Core.Path.{sym, ◌∙◌}
 use native.Mathlib.Omega.{arith}
-use borrow.Author.Rules.{rules}
 use Rattle.strict.proofs.heads.kind_t.Goals as goal
 
 pub returns-in-101 : goal.returns-in-101

@@ -3,7 +3,6 @@ use Rattle.strict.proofs.Tree as L
 use Rattle.strict.specs.Words as W
 use Rattle.strict.specs.Whole as M
 use mathlib.Core.Path.{sym, ◌∙◌}
-use borrow.Author.Rules.{rules}
 use native.Mathlib.Omega.{arith}
 use Rattle.strict.proofs.heads.read_head.Goals as goal
 

@@ -7,7 +7,6 @@ use Rattle.strict.specs.Lists.{row}
 use Rattle.grammar.specs.Join.{mapped}
 use mathlib.Core.Path.{◌∙◌}
 use native.Mathlib.Omega.{arith}
-use borrow.Author.Rules.{rules}
 use Rattle.strict.proofs.inner.read_strides.Goals as goal
 
 pub returns : goal.returns

@@ -4,7 +4,6 @@ use Rattle.strict.proofs.Items as I
 use Rattle.strict.specs.Cursor as C
 use mir.Syntax.{w64}
 use mir.Val.{to_z, of_z}
-use Prim.Native.Nat.{◌-◌}
 use mathlib.Core.Path.{◌≡◌, refl}
 use native.Mathlib.Omega.{arith}
 use borrow.Author.Rules.{rules}

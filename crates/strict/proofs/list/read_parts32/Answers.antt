@@ -5,7 +5,7 @@ use Rattle.strict.specs.Cursor as C
 use mathlib.Core.Bool.{cond}
 use mir.Syntax.{w32}
 use mir.Val.{to_z, of_z}
-use Prim.Native.Nat.{◌+◌, ◌-◌, ◌^◌}
+use Prim.Native.Nat.{◌+◌, ◌^◌}
 use mathlib.Core.Path.{◌≡◌, refl, sym, ap, ◌∙◌}
 use native.Mathlib.Omega.{arith}
 use borrow.Author.Rules.{rules}

@@ -7,7 +7,6 @@ use Rattle.strict.specs.Lists.{row, nothing, pushes}
 use Rattle.strict.specs.Rows.{dims64}
 use mir.Syntax.{w64}
 use mir.Val.{to_z, of_z}
-use Prim.Native.Nat.{◌-◌}
 use mathlib.Core.Path.{◌≡◌, refl, sym, ◌∙◌}
 use native.Mathlib.Omega.{arith}
 use borrow.Author.Rules.{rules}

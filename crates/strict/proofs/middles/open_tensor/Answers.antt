@@ -3,8 +3,6 @@ use Rattle.strict.proofs.Tree as L
 use Rattle.lexis.specs.Text.{bytes}
 use Rattle.strict.specs.Views as Y
 use mathlib.Core.Path.{sym, ◌∙◌}
-use native.Mathlib.Omega.{arith}
-use borrow.Author.Rules.{rules}
 use Rattle.strict.proofs.middles.open_tensor.Goals as goal
 
 pub returns-then-peek-eq33 : goal.returns-then-peek-eq33

@@ -6,8 +6,6 @@ use Rattle.grammar.specs.Table.{◌↝◌}
 use mathlib.Core.List.{◌∷◌}
 use Prim.Native.Nat.{◌+◌}
 use mathlib.Core.Path.{sym, ◌∙◌}
-use native.Mathlib.Omega.{arith}
-use borrow.Author.Rules.{rules}
 use Rattle.strict.proofs.middles.open_view.Goals as goal
 
 pub returns-then-peek-eq112 : goal.returns-then-peek-eq112

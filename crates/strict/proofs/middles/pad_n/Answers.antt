@@ -5,8 +5,6 @@ use Rattle.strict.specs.Words as W
 use Rattle.strict.specs.Views as Y
 use Rattle.grammar.specs.Table.{advance}
 use mathlib.Core.Path.{sym, ◌∙◌}
-use native.Mathlib.Omega.{arith}
-use borrow.Author.Rules.{rules}
 use Rattle.strict.proofs.middles.pad_n.Goals as goal
 
 pub returns-then-peek-eq97 : goal.returns-then-peek-eq97

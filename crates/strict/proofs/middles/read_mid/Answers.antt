@@ -5,7 +5,6 @@ use Rattle.strict.specs.Words as W
 use Rattle.strict.specs.Views as Y
 use Rattle.strict.proofs.Viewing as G
 use mathlib.Core.Path.{◌∙◌}
-use borrow.Author.Rules.{rules}
 use Rattle.strict.proofs.middles.read_mid.Goals as goal
 
 pub returns-then-tile : goal.returns-then-tile

@@ -4,7 +4,6 @@ use Rattle.lexis.specs.Text.{bytes}
 use Rattle.strict.specs.Inner as I
 use Prim.Native.Nat.{◌+◌}
 use mathlib.Core.Path.{sym, ◌∙◌}
-use borrow.Author.Rules.{rules}
 use Rattle.strict.proofs.names.fork_i1.Goals as goal
 
 pub returns-then-peek-eq54 : goal.returns-then-peek-eq54

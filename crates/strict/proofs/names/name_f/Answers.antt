@@ -5,7 +5,6 @@ use Rattle.strict.specs.Inner as I
 use mathlib.Core.List.{[], ◌∷◌}
 use mathlib.Core.Path.{sym, ◌∙◌}
 use native.Mathlib.Omega.{arith}
-use borrow.Author.Rules.{rules}
 use Rattle.strict.proofs.names.name_f.Goals as goal
 
 pub returns-in-49 : goal.returns-in-49

@@ -4,7 +4,6 @@ use Rattle.strict.specs.Inner as I
 use Rattle.lexis.specs.Text.{bytes}
 use mathlib.Core.List.{[], ◌∷◌}
 use mathlib.Core.Path.{sym, ◌∙◌}
-use borrow.Author.Rules.{rules}
 use native.Mathlib.Omega.{arith}
 use Rattle.strict.proofs.names.name_f8.Goals as goal
 

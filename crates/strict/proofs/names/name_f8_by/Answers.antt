@@ -6,7 +6,6 @@ use Prim.Native.Nat.{◌+◌}
 use mathlib.Core.List.{[], ◌∷◌}
 use mathlib.Core.Path.{sym, ◌∙◌}
 use native.Mathlib.Omega.{arith}
-use borrow.Author.Rules.{rules}
 use Rattle.strict.proofs.names.name_f8_by.Goals as goal
 
 pub returns-in-52 : goal.returns-in-52

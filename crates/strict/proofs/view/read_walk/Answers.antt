@@ -12,7 +12,6 @@ use Prim.Native.Nat.{ℕ}
 use lib.IntN.{ℤ}
 use mathlib.Core.Path.{sym, ap, ◌∙◌}
 use native.Mathlib.Omega.{arith}
-use borrow.Author.Rules.{rules}
 use Rattle.strict.proofs.view.read_walk.Goals as goal
 
 pub returns-then-bare : goal.returns-then-bare

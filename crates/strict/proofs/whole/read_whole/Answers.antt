@@ -8,7 +8,6 @@ use Rattle.strict.specs.Words.{choose, among}
 use mathlib.Core.Bool.{false}
 use mathlib.Core.Path.{sym, ◌∙◌}
 use native.Mathlib.Omega.{arith}
-use borrow.Author.Rules.{rules}
 use Rattle.strict.proofs.whole.read_whole.Goals as goal
 
 pub returns-then-k-lt22 : goal.returns-then-k-lt22

@@ -4,7 +4,6 @@ use Rattle.strict.specs.Words as W
 use Rattle.grammar.specs.Table.{◌↝◌}
 use mathlib.Core.List.{[], ◌∷◌}
 use lib.ListN.{drop}
-use Prim.Native.Nat.{◌-◌}
 use mathlib.Core.Path.{◌∙◌}
 use native.Mathlib.Omega.{arith}
 use borrow.Author.Rules.{rules}
