@@ -25,7 +25,7 @@ use Rattle.grammar.specs.Body as B
 use Rattle.strict.specs.Rows.{dims64, list64}
 use Rattle.strict.specs.Lists.{Row, nothing, pushed, pushes}
 use Rattle.strict.specs.Plain.{scalar}
-use Rattle.strict.proofs.Together.{Same, both, along, convey, label, closing, close, ended, ended_then}
+use Rattle.strict.proofs.Together.{Same, both, along, convey, label, closing, ended, ended_then}
 use Rattle.strict.proofs.Endings.{large_list}
 use Rattle.strict.proofs.Rows.{parts}
 use Rattle.strict.proofs.Picking.{choose_label}

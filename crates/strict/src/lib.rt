@@ -1,5 +1,6 @@
 // The strict reader: one cursor over the text, no step back. Each part answers a value and the place after it, or where it is stuck.
 #![tactic(auto)]
+
 mod answer;
 mod heads;
 mod inner;
