@@ -1,59 +1,67 @@
 // Counts a sheet of type texts, one a row, from standard input (02, C-11).
 #![tactic(auto)]
+
 mod say;
 mod words;
 
 use say::{line, say, say_number};
 use sheet::Totals;
+use std::io::{self, Input, Print, Read};
 
-fn defaults(t: Totals) {
-    say(b"defaults ");
-    say_number(t.a);
-    say(b" ");
-    say_number(t.b);
-    say(b" ");
-    say_number(t.c);
-    say(b" ");
-    say_number(t.d);
-    say(b"\n");
+fn defaults<R: Print>(rt: &R, t: Totals) -> io::Result<()> {
+    say(rt, b"defaults ")?;
+    say_number(rt, t.a)?;
+    say(rt, b" ")?;
+    say_number(rt, t.b)?;
+    say(rt, b" ")?;
+    say_number(rt, t.c)?;
+    say(rt, b" ")?;
+    say_number(rt, t.d)?;
+    say(rt, b"\n")
 }
 
-fn lines(t: Totals) {
-    line(b"rows ", t.rows);
-    line(b"accepted ", t.accepted);
-    line(b"refused-1 ", t.refused_1);
-    line(b"refused-2 ", t.refused_2);
-    line(b"refused-3 ", t.refused_3);
-    line(b"refused-4 ", t.refused_4);
-    defaults(t);
+fn lines<R: Print>(rt: &R, t: Totals) -> io::Result<()> {
+    line(rt, b"rows ", t.rows)?;
+    line(rt, b"accepted ", t.accepted)?;
+    line(rt, b"refused-1 ", t.refused_1)?;
+    line(rt, b"refused-2 ", t.refused_2)?;
+    line(rt, b"refused-3 ", t.refused_3)?;
+    line(rt, b"refused-4 ", t.refused_4)?;
+    defaults(rt, t)
 }
 
 // The seven lines, or the refusal alone.
-fn report(t: Totals) {
+fn report<R: Print>(rt: &R, t: Totals) -> io::Result<()> {
     let answer = t.answer;
     let number = answer.number();
     if number != 0 {
-        line(b"refused-", number as usize);
-        return;
+        return line(rt, b"refused-", number as usize);
     }
-    lines(t);
+    lines(rt, t)
 }
 
-// What can't be read to its end, such as a folder, has no totals.
-fn unreadable() {
-    io::write_all(2, b"typesheet: standard input can't be read\n");
+// Reads until the room is full or the input ends.
+fn fill<R: Read>(from: &mut R, room: &mut [u8]) -> io::Result<usize> {
+    let mut n = 0;
+    while n < room.len() {
+        let k = from.read(&mut room[n..])?;
+        if k == 0 {
+            return Ok(n);
+        }
+        n += k;
+    }
+    Ok(n)
 }
 
-fn main() {
+fn main(rt: HostRuntime) -> io::Result<()> {
+    if !words::ask_for_totals(&rt)? {
+        return Ok(());
+    }
     // One byte more than a sheet may have: what is longer fills it, and is refused.
     let mut room = [0u8; sheet::LIMIT + 1];
-    if words::ask_for_totals() {
-        let n = io::read_full(0, &mut room);
-        // It is 0 when a program begins, and a read alone can have set it.
-        if os::errno() == 0 {
-            report(sheet::totals(&room[..n]));
-        } else {
-            unreadable();
-        }
+    match fill(&mut rt.reader(), &mut room) {
+        Ok(n) => report(&rt, sheet::totals(&room[..n])),
+        // What can't be read to its end, such as a folder, has no totals.
+        Err(_) => eprintln!(rt; "typesheet: standard input can't be read"),
     }
 }
