@@ -18,7 +18,7 @@ put_bytes-a-requires c = let a = c.args in
     omega (arith, simp length-append at (ap length e))
 
 pub slice_bounds-put_dims-end : goal.slice_bounds-put_dims-end
-slice_bounds-put_dims-end c = sym (length-take-le _ _ (omega (arith, c.requires.0)))
+slice_bounds-put_dims-end c = sym (length-take-le _ _ (omega (arith, c.requires.n_bound)))
 
 pub put_dims-b-requires : goal.put_dims-b-requires
 put_dims-b-requires c = let a = c.args in

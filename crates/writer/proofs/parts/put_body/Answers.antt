@@ -7,19 +7,19 @@ use Rattle.writer.proofs.parts.put_body.Goals as goal
 
 pub put_shape-a-requires : goal.put_shape-a-requires
 unfolding body_in
-put_shape-a-requires c = (c.requires.0, omega (arith, simp length-append at c.requires.1))
+put_shape-a-requires c = record { small = c.requires.small; r_in_bounds = omega (arith, simp length-append at c.requires.r_in_bounds) }
 
 pub put_scalar-b-requires : goal.put_scalar-b-requires
 unfolding body_in
-put_scalar-b-requires c = omega (arith, simp length-append at c.requires.1)
+put_scalar-b-requires c = omega (arith, simp length-append at c.requires.r_in_bounds)
 
 pub put_strides-d-requires : goal.put_strides-d-requires
 unfolding body_in
-put_strides-d-requires c = (c.requires.0, omega (arith, simp length-append at c.requires.1))
+put_strides-d-requires c = record { small = c.requires.small; r_in_bounds = omega (arith, simp length-append at c.requires.r_in_bounds) }
 
 pub put_mark-requires : goal.put_mark-requires
 unfolding body_in
-put_mark-requires c = omega (arith, simp length-append at c.requires.1)
+put_mark-requires c = omega (arith, simp length-append at c.requires.r_in_bounds)
 
 pub returns : goal.returns
 unfolding body_in

@@ -18,25 +18,25 @@ module _ (r : Record) {k l : Kind} (e : k ≡ l) where
   is {s} {t} {a} {b} p = subst (λ (j : Kind). Put s a (rest_as j r) t b) (sym e) p
 
 pub put_scalar-requires : goal.put_scalar-requires
-put_scalar-requires c = room c.args.r c.in-Scalar.is c.args.at c.requires.1
+put_scalar-requires c = room c.args.r c.in-Scalar.is c.args.at c.requires.r_in_bounds
 
 pub put_pointer-requires : goal.put_pointer-requires
-put_pointer-requires c = room c.args.r c.in-Pointer.is c.args.at c.requires.1
+put_pointer-requires c = room c.args.r c.in-Pointer.is c.args.at c.requires.r_in_bounds
 
 pub put_tile-requires : goal.put_tile-requires
-put_tile-requires c = (c.requires.0, room c.args.r c.in-Tile.is c.args.at c.requires.1)
+put_tile-requires c = record { small = c.requires.small; r_in_bounds = room c.args.r c.in-Tile.is c.args.at c.requires.r_in_bounds }
 
 pub put_tensor-requires : goal.put_tensor-requires
-put_tensor-requires c = (c.requires.0, room c.args.r c.in-TensorView.is c.args.at c.requires.1)
+put_tensor-requires c = record { small = c.requires.small; r_in_bounds = room c.args.r c.in-TensorView.is c.args.at c.requires.r_in_bounds }
 
 pub put_view-requires : goal.put_view-requires
-put_view-requires c = (c.requires.0, room c.args.r c.in-Partition.is c.args.at c.requires.1)
+put_view-requires c = record { small = c.requires.small; r_in_bounds = room c.args.r c.in-Partition.is c.args.at c.requires.r_in_bounds }
 
 pub put_view-requires-in-GatherScatter : goal.put_view-requires-in-GatherScatter
-put_view-requires-in-GatherScatter c = (c.requires.0, room c.args.r c.in-GatherScatter.is c.args.at c.requires.1)
+put_view-requires-in-GatherScatter c = record { small = c.requires.small; r_in_bounds = room c.args.r c.in-GatherScatter.is c.args.at c.requires.r_in_bounds }
 
 pub put_view-requires-in-Strided : goal.put_view-requires-in-Strided
-put_view-requires-in-Strided c = (c.requires.0, room c.args.r c.in-Strided.is c.args.at c.requires.1)
+put_view-requires-in-Strided c = record { small = c.requires.small; r_in_bounds = room c.args.r c.in-Strided.is c.args.at c.requires.r_in_bounds }
 
 pub returns-in-Scalar : goal.returns-in-Scalar
 returns-in-Scalar c = is c.args.r c.in-Scalar.is c.put_scalar.ensures
