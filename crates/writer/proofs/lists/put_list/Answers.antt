@@ -1,5 +1,5 @@
 -- The first entry, then a loop. Invariant: what is left to put are the entries from i on, each behind its separator.
-use Prim.Native.Nat.{ℕ, ◌-◌}
+use Prim.Native.Nat.{ℕ}
 use mathlib.Core.Path.{◌≡◌}
 use borrow.Author.Rules.{rules}
 use lib.IntN.{pos}

@@ -1,5 +1,5 @@
 -- Below 10 one byte; else the digits of n / 10, which is smaller, and one byte more.
-use Rattle.std.proofs.Common.{arith, ◌≡◌, ◌+◌, ◌*◌, ◌/◌, ◌%◌}
+use Rattle.std.proofs.Common.{arith}
 use native.Mathlib.Nat.{div-add-mod}
 use Rattle.writer.proofs.Digits.{put_one, put_more, room_more}
 use Rattle.writer.proofs.put.+put_digits.Goals as goal

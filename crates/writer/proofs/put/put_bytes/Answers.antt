@@ -1,5 +1,4 @@
 -- Invariant: what is left to put is what is left of the bytes.
-use Prim.Native.Nat.{◌-◌}
 use borrow.Author.Rules.{rules}
 use Rattle.writer.proofs.Rooms.{copy_start, copy_step, copy_end}
 use Rattle.writer.proofs.put.put_bytes.Goals as goal
