@@ -18,7 +18,7 @@ below w z (x ∷ xs) [] i p = absurd p
 below w z (x ∷ xs) (u ∷ us) zero p = p.0.1
 below w z (x ∷ xs) (u ∷ us) (suc i) p = below w z xs us i p.1
 
--- as the machine tells of a field now
+-- a field's predicate names the entries as they stand
 pub within_64 : (xs : List ℤ) (us : List Val) (i : ℕ) → shadow (each ℤ (SInt w64).own_val xs us) → mag (get_or xs i (pos 0)) < 2 ^ 63
 within_64 xs us i p = below w64 (lit< tt) xs us i p
 
