@@ -35,7 +35,7 @@ use Rattle.accord.proofs.Shape.{Shape, lit, alt, the, left, right}
 use Rattle.accord.proofs.Names.{table, name_word}
 use Rattle.accord.proofs.Lists.{exact}
 use Rattle.accord.proofs.Forms.{◌▸◌, ◌&◌, say, dims_in, strs_in, entries_in, name_in, may_in, comma_in, comma_shape, strides_shape, body, body_shape}
-use Rattle.accord.proofs.Forms.{pad_in, pad_shape, intro_in, intro_shape, middle, end, no_travel, travel_of, map_of, sparse_of, Sight, tile_shape, inside}
+use Rattle.accord.proofs.Forms.{pad_in, pad_shape, intro_in, intro_shape, end, no_travel, travel_of, map_of, sparse_of, Sight, tile_shape, inside}
 use Rattle.accord.proofs.Inner.{tile_plain, tile_pointer, strides_found, tensor_found, tensor_read}
 use Rattle.accord.proofs.Outer.{view_found, with, partition_read, gather_read, strided_read}
 use Rattle.accord.proofs.Hole as H

@@ -18,6 +18,13 @@ below w z (x ∷ xs) [] i p = absurd p
 below w z (x ∷ xs) (u ∷ us) zero p = p.0.1
 below w z (x ∷ xs) (u ∷ us) (suc i) p = below w z xs us i p.1
 
+-- a field's predicate names the entries as they stand
+pub within_64 : (xs : List ℤ) (us : List Val) (i : ℕ) → shadow (each ℤ (SInt w64).own_val xs us) → mag (get_or xs i (pos 0)) < 2 ^ 63
+within_64 xs us i p = below w64 (lit< tt) xs us i p
+
+pub within_32 : (xs : List ℤ) (us : List Val) (i : ℕ) → shadow (each ℤ (SInt w32).own_val xs us) → mag (get_or xs i (pos 0)) < 2 ^ 31
+within_32 xs us i p = below w32 (lit< tt) xs us i p
+
 pub below_64 : (xs : List ℤ) (us : List Val) (i : ℕ) → shadow (each ℤ (SInt w64).own_val (map (λ (v : ℤ). v) xs) us) → mag (get_or xs i (pos 0)) < 2 ^ 63
 below_64 xs us i p = below w64 (lit< tt) xs us i (subst (λ (ys : List ℤ). shadow (each ℤ (SInt w64).own_val ys us)) (map-id xs) p)
 

@@ -12,7 +12,7 @@ use mathlib.Core.Path.{◌≡◌, refl, ap, ◌∙◌}
 use lib.Dec.{T, eqb, eqb-suc-zero}
 use lib.IntN.{ℤ, pos}
 use lib.ListN.{length, replicate}
-use Rattle.lexis.specs.Text.{Text, bytes, if◌then◌else◌, same, trim, split, onto_first, less_leading, less_trailing, Cut, nowhere, at, cut}
+use Rattle.lexis.specs.Text.{Text, bytes, if◌then◌else◌, trim, split, onto_first, less_leading, less_trailing, Cut, nowhere, at, cut}
 use Rattle.scalars.specs.Names.{scalar_name}
 use Rattle.scalars.specs.declared.scalar.Scalar.{Scalar}
 use Rattle.meaning.specs.declared.Kind.{Kind}

@@ -1,5 +1,6 @@
 // The text of a record, laid at the front of a room (01, "Written text").
 #![tactic(auto)]
+
 mod call;
 mod has_text;
 mod lists;
