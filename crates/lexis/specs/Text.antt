@@ -4,6 +4,7 @@ use Prim.Native.Char.{code}
 use Prim.Native.String as S
 use Prim.Native.String.{String}
 use Rattle.std.proofs.Math.Option.{Option, none, some}
+pub use Rattle.std.specs.Prelude.{if◌then◌else◌}
 use Rattle.lexis.specs.declared.text.Found.{Found}
 use Rattle.lexis.specs.declared.text.Found.TheVariants.{At, Nowhere}
 
@@ -14,11 +15,6 @@ Text = List ℕ
 abbrev pub bytes : String → Text
 bytes S.[] = []
 bytes (S.◌∷◌ c s) = code c ∷ bytes s
-
-infixr 10 if◌then◌else◌
-abbrev pub if◌then◌else◌ : {A : Type 0} → Bool → A → A → A
-if true then a else b = a
-if false then a else b = b
 
 -- ── seeking ──
 
