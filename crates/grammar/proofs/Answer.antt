@@ -14,7 +14,7 @@ use Rattle.meaning.specs.declared.Refusal.TheVariants.{TooLong, HighByte, NotStr
 use Rattle.meaning.specs.Ordinary.{high_from, refused}
 use Rattle.meaning.specs.Meant.{Any, fits, taken, Judged, accepted, too_many, not_strict, ReadAscii, Strictly}
 use Rattle.grammar.specs.Piece.{Answer, got, stuck}
-use Rattle.grammar.specs.Whole.{read, strict_sound, strict_complete}
+use Rattle.grammar.proofs.Whole.{read, strict_sound, strict_complete}
 
 abbrev pub judge : ℕ → Answer Any → Reading
 judge cap (got a []) = if fits cap a then taken cap a else refused cap TooMany 0

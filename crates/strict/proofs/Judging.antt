@@ -23,7 +23,7 @@ use Rattle.meaning.specs.Meant.{Any, fits, flat_any, taken, Strictly}
 use Rattle.meaning.specs.Strict.{nth}
 use Rattle.grammar.specs.Piece.{Answer, got, stuck}
 use Rattle.grammar.specs.Join.{mapped}
-use Rattle.grammar.specs.Whole as G
+use Rattle.grammar.proofs.Whole as G
 use Rattle.grammar.proofs.Answer.{judge, answer, answer_ascii, answer_right}
 use Rattle.grammar.proofs.Printed.{strict_low}
 use Rattle.strict.specs.Cursor.{valued}
