@@ -42,6 +42,11 @@ fn report<R: Print>(rt: &R, t: Totals) -> io::Result<()> {
     lines(rt, t)
 }
 
+// What can't be read to its end, such as a folder, has no totals.
+fn unreadable<R: Print>(rt: &R) -> io::Result<()> {
+    eprintln!(rt; "typesheet: standard input can't be read")
+}
+
 // Reads until the room is full or the input ends.
 fn fill<R: Read>(from: &mut R, room: &mut [u8]) -> io::Result<usize>
     ensures { IfOk result (λ n. n ≤ length room.new) }
@@ -65,7 +70,6 @@ fn main(rt: HostRuntime) -> io::Result<()> {
     let mut room = [0u8; sheet::LIMIT + 1];
     match fill(&mut rt.reader(), &mut room) {
         Ok(n) => report(&rt, sheet::totals(&room[..n])),
-        // What can't be read to its end, such as a folder, has no totals.
-        Err(_) => eprintln!(rt; "typesheet: standard input can't be read"),
+        Err(_) => unreadable(&rt),
     }
 }
