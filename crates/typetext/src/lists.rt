@@ -3,6 +3,7 @@ ghost use Rattle.std.specs.Prelude.{◌≡◌};
 
 use super::say::{say, say_signed};
 use meaning::CAP;
+use std::io::{self, Print};
 
 pub fn wide(x: i32) -> i64
     ensures { result ≡ x }
@@ -12,38 +13,34 @@ pub fn wide(x: i32) -> i64
 
 fn widened(values: [i32; CAP]) -> [i64; CAP] {
     let mut all = [0i64; CAP];
-    let mut i = 0;
-    while i < CAP {
+    for i in 0..CAP {
         all[i] = wide(values[i]);
-        i += 1;
     }
     all
 }
 
 // The i-th of `len` entries, with the comma that parts it from those before.
-fn entry(i: usize, len: usize, z: i64) {
+fn entry<R: Print>(rt: &R, i: usize, len: usize, z: i64) -> io::Result<()> {
     if len <= i {
-        return;
+        return Ok(());
     }
     if 0 < i {
-        say(b", ");
+        say(rt, b", ")?;
     }
-    say_signed(z);
+    say_signed(rt, z)
 }
 
 // A list of shape or strides.
-pub fn list64(name: &[u8], values: [i64; CAP], len: usize) {
-    say(name);
-    say(b"[");
-    let mut i = 0;
-    while i < CAP {
-        entry(i, len, values[i]);
-        i += 1;
+pub fn list64<R: Print>(rt: &R, name: &[u8], values: [i64; CAP], len: usize) -> io::Result<()> {
+    say(rt, name)?;
+    say(rt, b"[")?;
+    for i in 0..CAP {
+        entry(rt, i, len, values[i])?;
     }
-    say(b"]\n");
+    say(rt, b"]\n")
 }
 
 // A list of a view.
-pub fn list32(name: &[u8], values: [i32; CAP], len: usize) {
-    list64(name, widened(values), len);
+pub fn list32<R: Print>(rt: &R, name: &[u8], values: [i32; CAP], len: usize) -> io::Result<()> {
+    list64(rt, name, widened(values), len)
 }
