@@ -2,8 +2,8 @@
 #![tactic(auto)]
 
 mod counts;
+mod entries;
 mod help;
-mod lists;
 mod refusal;
 mod say;
 mod text;

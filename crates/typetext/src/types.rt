@@ -1,5 +1,5 @@
 // A type, field by field: those that its kind uses.
-use super::lists::{list32, list64, wide};
+use super::entries::{list32, list64, wide};
 use super::say::{say, say_signed};
 use super::text::{behind, prefix};
 use meaning::{Kind, Padding, Record};
