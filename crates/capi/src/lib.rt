@@ -1,6 +1,7 @@
 // The C face: numbers and byte slices in and out, nothing decided here (docs/ABI.md). Here the readers; the writer in `write`, the collector
 // in `collect`, sheets in `count`.
 #![tactic(auto)]
+
 mod collect;
 mod count;
 mod write;

@@ -1,5 +1,6 @@
 // Texts in fragments (02, C-13): one collector per link is lent to each piece and to the end, and altered by them.
 #![tactic(auto)]
+
 mod parts;
 mod values;
 

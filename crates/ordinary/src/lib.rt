@@ -1,6 +1,7 @@
 // The ordinary reader: what `Type::parse` returns, with the default counts. What the strict reader settles is the answer; any other text is
 // read by the port of types.rs.
 #![tactic(auto)]
+
 ghost use Rattle.std.specs.Prelude.{◌≡◌};
 ghost use Rattle.meaning.specs.Ordinary.{ordinary};
 

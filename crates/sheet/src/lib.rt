@@ -1,5 +1,6 @@
 // A sheet of texts, row after row (02, C-11): a walker that stands on the lent sheet, and exact totals over its rows.
 #![tactic(auto)]
+
 mod lines;
 mod sums;
 
