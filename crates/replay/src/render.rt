@@ -1,5 +1,5 @@
 // A reading as the list writes it: `1`, `2 @PLACE`, or `0 KIND ELEMENT pointer=0 .. counts=0,0,0,0`.
-ghost use Rattle.std.specs.Prelude.{◌≡◌, nat_abs};
+ghost use Rattle.std.specs.Prelude.{◌≡◌, ◌≤◌, decimal, drop, nat_abs};
 
 use meaning::{CAP, Kind, Note, Padding, Reading, Record};
 use scalars::Scalar;
