@@ -2,6 +2,8 @@
 // Each type that was read is then written, and its text read again.
 #![tactic(auto)]
 
+ghost use Rattle.std.specs.Prelude.{◌≤◌, length};
+
 mod back;
 mod render;
 mod row;
@@ -69,7 +71,9 @@ fn replay<R: Print>(rt: &R, list: &[u8], before: Totals) -> io::Result<Totals> {
 }
 
 // Reads until the room is full, the input ends or a read fails.
-fn fill<R: Read>(from: &mut R, room: &mut [u8]) -> usize {
+fn fill<R: Read>(from: &mut R, room: &mut [u8]) -> usize
+    ensures { result ≤ length room.new }
+{
     let mut n = 0;
     while n < room.len() {
         match from.read(&mut room[n..]) {

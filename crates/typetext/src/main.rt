@@ -13,7 +13,7 @@ mod words;
 use meaning::Reading;
 use say::say;
 use std::env::Env;
-use std::io::{self, Input, Print};
+use std::io::{self, ErrorKind, Input, Print};
 use words::{Asked, Task};
 
 // The type and the counts, or the refusal.
@@ -75,10 +75,18 @@ fn carry_out<R: Env + Input + Print>(rt: &R, asked: Asked) -> io::Result<()> {
     answer(rt, task, text::prefix(&room, n))
 }
 
-fn main(rt: HostRuntime) -> io::Result<()> {
-    let asked = words::understand(&rt)?;
+fn run<R: Env + Input + Print>(rt: &R) -> io::Result<()> {
+    let asked = words::understand(rt)?;
     if asked.understood {
-        carry_out(&rt, asked)?;
+        carry_out(rt, asked)?;
     }
     Ok(())
+}
+
+// Where nobody reads on, as behind `head`, the rest is left out, and that is no error.
+fn main(rt: HostRuntime) -> io::Result<()> {
+    match run(&rt) {
+        Err(e) if e.kind() == ErrorKind::BrokenPipe => Ok(()),
+        ended => ended,
+    }
 }

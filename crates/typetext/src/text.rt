@@ -30,7 +30,9 @@ fn unended(s: &[u8], n: usize) -> usize
 }
 
 // Reads until the room is full, the input ends or a read fails.
-fn fill<R: Read>(from: &mut R, room: &mut [u8]) -> usize {
+fn fill<R: Read>(from: &mut R, room: &mut [u8]) -> usize
+    ensures { result ≤ length room.new }
+{
     let mut n = 0;
     while n < room.len() {
         match from.read(&mut room[n..]) {

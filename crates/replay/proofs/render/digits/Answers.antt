@@ -1,7 +1,8 @@
 -- `decimal_step` takes the last digit off, and it goes to the front of what is written.
-use Rattle.std.proofs.Common.{◌≡◌, ◌+◌, ◌-◌, ◌≤◌, ap, ◌∙◌, arith, append_assoc, length-append}
+use Rattle.std.proofs.Common.{◌≡◌, ◌+◌, ◌-◌, ◌/◌, ◌≤◌, ap, ◌∙◌, length, arith, append_assoc, length-append}
 use Rattle.std.proofs.lemmas.Fmt.{decimal_digit, decimal_step, decimal_nonempty, length-decimal-le}
 use Rattle.std.proofs.lemmas.List.{append-nil, drop-set, drop_all}
+use Rattle.std.specs.Fmt.{decimal}
 use Rattle.replay.proofs.render.digits.Goals as goal
 
 pub loop-left-init : goal.loop-left-init
@@ -19,7 +20,7 @@ pub loop-left-preserved : goal.loop-left-preserved
 loop-left-preserved c =
     let l = c.loop-left in
     let step = decimal_step l.left c.loop-left-test.true l.auto.left-fits.fits in
-    let long = ap length step ∙ length-append _ _ in
+    let long : length (decimal l.left) ≡ length (decimal (l.left / 10)) + 1 = ap length step ∙ length-append (decimal (l.left / 10)) _ in
     let e : l.at - 1 + 1 ≡ l.at = omega (arith, l.invariant.0, long) in (
       omega (arith, l.invariant.0, long),
       omega (arith, l.invariant.1),
