@@ -1,5 +1,5 @@
 -- The digits that are left stand before those that are written.
-use Rattle.std.proofs.Common.{◌≡◌, ◌+◌, ◌≤◌, ◌++◌, length, drop}
+use Rattle.std.proofs.Common.{◌≡◌, ◌≤◌, ◌++◌, length, drop}
 use Rattle.std.specs.Fmt.{decimal}
 use Rattle.replay.proofs.render.digits.Given as goal
 
