@@ -21,7 +21,7 @@ fn put(out: &mut [u8], at: usize, s: &[u8]) -> usize {
     n
 }
 
-// A number's digits, at the end of the room; a u64 has at most 20.
+// Writes a number's digits at the end of the room, and returns where they begin; a u64 has at most 20.
 fn digits(n: u64, room: &mut [u8; 20]) -> usize
     ensures start { result ≤ 20 }
     ensures written { drop result room.new ≡ decimal n }
