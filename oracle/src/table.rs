@@ -71,19 +71,19 @@ fn scalars() -> Result<String, String> {
     };
     Ok(format!(
         "\
--- The scalars' widths, classes and bits as the Rust gives them. Written by `oracle table`.
-use mathlib.Core.Path.{{_≡_, refl}}
+-- The scalars' widths and classes as the Rust gives them, and their bits. Written by `oracle table`.
+use mathlib.Core.Path.{{◌≡◌, refl}}
 use mathlib.Core.Bool.{{true, false, not}}
 use mathlib.Core.List as L
-use mathlib.Core.List.{{List, [], _∷_}}
-use Rattle·scalars.specs.Names.{{byte-width, integer, bit-width}}
-use Rattle·scalars.specs.declared.scalar.Scalar.{{Scalar}}
-use Rattle·scalars.specs.declared.scalar.Scalar.the-variants as S
+use mathlib.Core.List.{{List, [], ◌∷◌}}
+use Rattle.scalars.specs.Names.{{byte_width, integer, bit_width}}
+use Rattle.scalars.specs.declared.scalar.Scalar.{{Scalar}}
+use Rattle.scalars.specs.declared.scalar.Scalar.TheVariants as S
 
 abbrev all : List Scalar
 all = {}
 
-pub widths : L.map byte-width all ≡ {}
+pub widths : L.map byte_width all ≡ {}
 widths = refl
 
 pub integers : L.map integer all ≡ {}
@@ -92,7 +92,7 @@ integers = refl
 pub floats : L.map (λ s. not (integer s)) all ≡ {}
 floats = refl
 
-pub bits : L.map bit-width all ≡ {}
+pub bits : L.map bit_width all ≡ {}
 bits = refl
 ",
         listed(|(scalar, _)| format!("S.{scalar:?}")),
@@ -119,17 +119,17 @@ fn chosen() -> Vec<Vec<u8>> {
 fn file(number: usize, texts: &[Vec<u8>]) -> Result<String, String> {
     let mut content = format!(
         "-- Part {number} of the recorded list: texts with the Rust's answers, and counts worked out apart. Written by `oracle table`.
-use mathlib.Core.List.{{List, [], _∷_}}
+use mathlib.Core.List.{{List, [], ◌∷◌}}
 use lib.IntN.{{pos, negsuc}}
-use Rattle·meaning.proofs.Answers.{{Row, row, refused, type, DYN}}
-use Rattle·meaning.specs.declared.Kind.the-variants as K
-use Rattle·scalars.specs.declared.scalar.Scalar.the-variants as S
-use Rattle·meaning.specs.declared.Padding.the-variants as P
-use Rattle·meaning.specs.declared.Refusal.the-variants as R
+use Rattle.meaning.proofs.Answers.{{Row, row, refused, type, DYN}}
+use Rattle.meaning.specs.declared.Kind.TheVariants as K
+use Rattle.scalars.specs.declared.scalar.Scalar.TheVariants as S
+use Rattle.meaning.specs.declared.Padding.TheVariants as P
+use Rattle.meaning.specs.declared.Refusal.TheVariants as R
 use mathlib.Core.Bool.{{true, false}}
 
-abbrev pub part-{number} : List Row
-part-{number} =
+abbrev pub part_{number} : List Row
+part_{number} =
 "
     );
     for text in texts {

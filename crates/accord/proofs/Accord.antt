@@ -1,12 +1,13 @@
 -- Where the strict reading accepts, the ordinary reading answers the same: the same record, every count zero. So it does where the
 -- strict reading refuses a strict form for too long a list.
+use Rattle.std.specs.Prelude.{if◌then◌else◌}
 use Prim.Native.Nat.{ℕ, ◌≤◌}
 use mathlib.Core.Bool.{Bool, true, false, not}
 use mathlib.Core.Option.{Option, none, some}
 use mathlib.Core.Path.{◌≡◌, refl, sym, ap, ◌∙◌}
 use lib.Dec.{T, leb, le→leb}
 use lib.ListN.{length}
-use Rattle.lexis.specs.Text.{Text, if◌then◌else◌}
+use Rattle.lexis.specs.Text.{Text}
 use Rattle.meaning.specs.declared.Reading.{Reading}
 use Rattle.meaning.specs.declared.Refusal.TheVariants.{Accepted, TooLong, TooMany}
 use Rattle.meaning.specs.Found.{Found, flat, within}

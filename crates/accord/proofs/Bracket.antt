@@ -1,11 +1,12 @@
 -- The cut at the matching bracket, and its computed test over shapes: the depth behind each part.
+use Rattle.std.specs.Prelude.{if◌then◌else◌}
 use mathlib.Core.Path.{◌≡◌, refl, ap, subst, sym, ◌∙◌}
 use Prim.Native.Nat.{ℕ, suc}
 use mathlib.Core.Bool.{Bool, true, false, cond, ◌||◌, not}
 use mathlib.Core.List.{List, [], ◌∷◌, ◌++◌, append_assoc, append-nil}
 use mathlib.Core.Option.{Option, none, some}
 use lib.Dec.{T, eqb, eqb→eq}
-use Rattle.lexis.specs.Text.{Cut, at, later, if◌then◌else◌}
+use Rattle.lexis.specs.Text.{Cut, at, later}
 use Rattle.lexis.proofs.Seeking.{turned}
 use Rattle.meaning.specs.Parts.{shallower, depth, close}
 use Rattle.grammar.specs.Tests.{every, and_left, and_right, TNotEq}

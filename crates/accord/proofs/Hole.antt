@@ -1,5 +1,6 @@
 -- A text with a place for the mark is read as the text without it: one pass takes the mark out, and nothing else is changed but
 -- the attribute.
+use Rattle.std.specs.Prelude.{if◌then◌else◌}
 use Prim.Native.Nat.{ℕ, suc, ◌-◌}
 use native.Mathlib.Omega.{arith}
 use mathlib.Core.Bool.{Bool, true, false, ◌&&◌, not}
@@ -8,7 +9,7 @@ use mathlib.Core.Option.{Option, none, some}
 use mathlib.Core.Path.{◌≡◌, refl, subst, sym, ap, ◌∙◌}
 use lib.Dec.{T}
 use lib.ListN.{length}
-use Rattle.lexis.specs.Text.{bytes, cut, Cut, nowhere, at, later, begins, after, trim, if◌then◌else◌}
+use Rattle.lexis.specs.Text.{bytes, cut, Cut, nowhere, at, later, begins, after, trim}
 use Rattle.meaning.specs.Strict.{may}
 use Rattle.meaning.specs.Parts.{each, less_all, remove}
 use Rattle.meaning.specs.Found.{Found, with_attribute}

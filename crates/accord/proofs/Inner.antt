@@ -1,5 +1,6 @@
 -- The ordinary reading of a tile's content and of a tensor view's, in strict forms: the searches are settled by shape, the parts
 -- are read back.
+use Rattle.std.specs.Prelude.{if◌then◌else◌}
 use Prim.Native.Nat.{ℕ, ◌-◌}
 use mathlib.Core.Bool.{Bool, true, false, ◌&&◌, not}
 use mathlib.Core.List.{List, [], ◌∷◌, ◌++◌, map, append-nil}
@@ -8,7 +9,7 @@ use mathlib.Core.Path.{◌≡◌, refl, ap, ◌∙◌}
 use lib.Dec.{T, eqb}
 use lib.ListN.{length}
 use lib.IntN.{pos, negsuc}
-use Rattle.lexis.specs.Text.{bytes, white, trim, split, cut, Cut, nowhere, begins, less_leading, less_trailing, unless_last, if◌then◌else◌}
+use Rattle.lexis.specs.Text.{bytes, white, trim, split, cut, Cut, nowhere, begins, less_leading, less_trailing, unless_last}
 use Rattle.scalars.specs.Names.{scalar_name}
 use Rattle.meaning.specs.Decimal.{Dim, dynamic, known, dim, size, in64}
 use Rattle.meaning.specs.Strict as Form

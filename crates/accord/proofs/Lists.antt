@@ -1,4 +1,5 @@
 -- Lists of entries: what is written is split and read back, entry by entry, and nothing falls back.
+use Rattle.std.specs.Prelude.{if◌then◌else◌}
 use Prim.Native.Nat.{ℕ, suc, ◌-◌, ◌^◌}
 use native.Mathlib.Omega.{arith}
 use mathlib.Core.Bool.{Bool, true, false, ◌&&◌, not}
@@ -6,7 +7,7 @@ use mathlib.Core.List.{List, [], ◌∷◌, ◌++◌, map, append_assoc, append-
 use mathlib.Core.Path.{◌≡◌, refl, sym, ap, ◌∙◌}
 use lib.Dec.{T, eqb, ltb→lt, le→leb, eqb_refl}
 use lib.IntN.{ℤ, pos, negsuc}
-use Rattle.lexis.specs.Text.{bytes, same, split, onto_first, found, occurs, Cut, if◌then◌else◌}
+use Rattle.lexis.specs.Text.{bytes, same, split, onto_first, found, occurs, Cut}
 use Rattle.lexis.proofs.Seeking.{turned}
 use Rattle.numerals.specs.Numeral.{digit, numeral}
 use Rattle.meaning.specs.Decimal.{decimal, Dim, dynamic, known, dim, size, in64, in32}

@@ -1,4 +1,5 @@
 -- Numerals: what is written in decimal is read back, digit by digit; and trimming does nothing where nothing is to trim.
+use Rattle.std.specs.Prelude.{if◌then◌else◌}
 use Prim.Native.Nat.{ℕ, zero, suc, ◌+◌, ◌-◌, ◌*◌, ◌/◌, ◌%◌, ◌^◌, ◌≤◌, ◌<◌}
 use native.Mathlib.Omega.{arith}
 use native.Mathlib.Nat.{mod-lt, zero-lt-suc, div-add-mod, le_refl}
@@ -8,7 +9,7 @@ use mathlib.Core.Option.{none, some}
 use mathlib.Core.Path.{◌≡◌, refl, sym, ap, ◌∙◌}
 use lib.Dec.{T, eqb, leb, ltb, leb→le, ltb→lt, nltb→le, eqb→eq}
 use lib.IntN.{ℤ, pos, negsuc}
-use Rattle.lexis.specs.Text.{white, trim, less_leading, less_trailing, unless_last, if◌then◌else◌}
+use Rattle.lexis.specs.Text.{white, trim, less_leading, less_trailing, unless_last}
 use Rattle.numerals.specs.Numeral.{digit, number_from, number, at_most, minus, numeral}
 use Rattle.numerals.proofs.Walking.{white_low}
 use Rattle.meaning.specs.Decimal.{digits, decimal}

@@ -1,5 +1,6 @@
 -- The ordinary reading of the three views' contents, in strict forms: the tile, the inner tensor view, the padding and the lists
 -- are each found where they stand.
+use Rattle.std.specs.Prelude.{if◌then◌else◌}
 use Prim.Native.Nat.{ℕ}
 use mathlib.Core.Bool.{Bool, false, ◌||◌}
 use mathlib.Core.List.{List, [], ◌∷◌, ◌++◌, append_assoc}
@@ -7,7 +8,7 @@ use mathlib.Core.Option.{none, some}
 use mathlib.Core.Path.{◌≡◌, refl, ap, ◌∙◌}
 use lib.Dec.{T, eqb}
 use lib.IntN.{ℤ, pos}
-use Rattle.lexis.specs.Text.{bytes, cut, Cut, at, until, if◌then◌else◌}
+use Rattle.lexis.specs.Text.{bytes, cut, Cut, at, until}
 use Rattle.meaning.specs.Decimal.{decimal, in32}
 use Rattle.meaning.specs.Strict as Form
 use Rattle.meaning.specs.Strict.{◌⊕◌, comma, Commas, commas, values, entries, entries_of}

@@ -1,11 +1,12 @@
 -- Over-approximated texts, and one computed test for what a search meets in them: the partial matches of a pattern are followed
 -- through a shape.
+use Rattle.std.specs.Prelude.{if◌then◌else◌}
 use mathlib.Core.Path.{◌≡◌, refl, ap, subst, sym, ◌∙◌}
 use Prim.Native.Nat.{ℕ}
 use mathlib.Core.Bool.{Bool, true, false, cond, ◌&&◌}
 use mathlib.Core.List.{List, [], ◌∷◌, ◌++◌, append_assoc, append-nil}
 use lib.Dec.{T, eqb, eqb→eq, eqb_refl}
-use Rattle.lexis.specs.Text.{begins, after, cut, Cut, nowhere, at, later, if◌then◌else◌}
+use Rattle.lexis.specs.Text.{begins, after, cut, Cut, nowhere, at, later}
 use Rattle.grammar.specs.Tests.{every, and_left, and_right}
 
 -- a cut, in a text with t more in front

@@ -1,5 +1,6 @@
 -- The rows of document 01, whole: each text with what the ordinary reader, the strict reader and the writer answer. One table, one theorem:
 -- the three columns are computed by the checker, and the strict one is turned into the definition by `answer_right`.
+use Rattle.std.specs.Prelude.{if◌then◌else◌}
 use Prim.Native.Nat.{ℕ}
 use Prim.Native.String.{String}
 use mathlib.Core.Bool.{false}
@@ -11,7 +12,7 @@ use native.Mathlib.Omega.{arith}
 use lib.Dec.{eqb}
 use lib.IntN.{pos}
 use lib.ListN.{length, drop, replicate}
-use Rattle.lexis.specs.Text.{Text, bytes, if◌then◌else◌}
+use Rattle.lexis.specs.Text.{Text, bytes}
 use Rattle.scalars.specs.declared.scalar.Scalar.TheVariants.{F32}
 use Rattle.meaning.specs.declared.Kind.TheVariants as K
 use Rattle.meaning.specs.declared.Padding.TheVariants.{Absent}

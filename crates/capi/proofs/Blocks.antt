@@ -1,4 +1,5 @@
 -- Blocks that hold a collector: what the code's tests say of `lent`, and what is laid back.
+use Rattle.std.specs.Prelude.{if◌then◌else◌}
 use Prim.Native.Nat.{ℕ, suc, ◌+◌, ◌≤◌}
 use native.Mathlib.Omega.{arith}
 use mathlib.Core.Bool.{Bool, true, false, ◌&&◌, false≢true}
@@ -9,7 +10,7 @@ use borrow.Author.Tests.{eqb-true, eq-eqb, ne_eqb}
 use lib.Dec.{eqb, leb}
 use lib.ListN.{length, take, drop, set, get_or, length-append, length-drop, take-append-drop, drop_of_length-le}
 use lib.Seq.{sets-eq, take_at}
-use Rattle.lexis.specs.Text.{Text, if◌then◌else◌}
+use Rattle.lexis.specs.Text.{Text}
 use Rattle.meaning.specs.Ordinary.{refused}
 use Rattle.meaning.specs.Refusals as R
 use Rattle.meaning.specs.declared.Refusal.TheVariants.{NotNormal}

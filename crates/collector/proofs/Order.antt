@@ -1,4 +1,5 @@
 -- Laws of a collector's parts: what the order test has to look at, and where a piece is laid. Over any limit.
+use Rattle.std.specs.Prelude.{if◌then◌else◌}
 use Prim.Native.Nat.{ℕ, zero, suc, ◌+◌, ◌-◌, ◌≤◌, ◌<◌}
 use native.Mathlib.Nat.{sub-zero}
 use native.Mathlib.Numerals.{add-one}
@@ -10,7 +11,7 @@ use borrow.Author.Tests.{leb-true, eqb-true, le-leb, lt-leb, eq-eqb, ne_eqb}
 use lib.Dec.{eqb, leb}
 use lib.ListN.{length, take, drop, get_or, set, length-set, replicate, length-replicate, length-append, length-drop, take-append-drop, drop_of_length-le}
 use lib.Seq.{take_all, take-length, length-take-le, drop-drop, paste, paste-zero, paste-suc}
-use Rattle.lexis.specs.Text.{Text, if◌then◌else◌}
+use Rattle.lexis.specs.Text.{Text}
 use Rattle.lexis.proofs.Lists.{view}
 use Rattle.collector.specs.declared.Collector.{Collector}
 use Rattle.meaning.specs.Ordinary.{refused}

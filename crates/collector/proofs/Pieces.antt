@@ -1,5 +1,6 @@
 -- Any pieces, in any cutting: what a fresh collector holds after them is what they are together, and so is the end's answer.
 -- First that a piece joins what is held, and that what holds is laid out in order; then the theorems over lists of pieces.
+use Rattle.std.specs.Prelude.{if◌then◌else◌}
 use Prim.Native.Nat.{ℕ, ◌-◌, ◌+◌, ◌≤◌, ◌<◌}
 use native.Mathlib.Omega.{arith}
 use mathlib.Core.Bool.{Bool, true, false, false≢true}
@@ -9,7 +10,7 @@ use borrow.Author.Tests.{leb-true, leb-false, le-leb, lt-leb, eq-eqb}
 use lib.Dec.{leb}
 use lib.ListN.{length, take, drop, replicate, length-append, length-replicate}
 use lib.Seq.{take-append_seam, drop-append_seam}
-use Rattle.lexis.specs.Text.{Text, if◌then◌else◌}
+use Rattle.lexis.specs.Text.{Text}
 use Rattle.meaning.specs.Ordinary.{ordinary, refused}
 use Rattle.meaning.specs.declared.Refusal.TheVariants.{TooLong}
 use Rattle.collector.specs.declared.Collector.{Collector}

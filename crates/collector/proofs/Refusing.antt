@@ -1,5 +1,6 @@
 -- Refusal 6 comes exactly for a collector that isn't in order, from a piece and from the end alike, and it is then unaltered.
 -- A piece gives no other refusal.
+use Rattle.std.specs.Prelude.{if◌then◌else◌}
 use Prim.Native.Nat.{ℕ}
 use native.Mathlib.Omega.{arith}
 use mathlib.Core.Bool.{Bool, true, false}
@@ -7,7 +8,7 @@ use mathlib.Core.Option.{Option, none, some}
 use mathlib.Core.Path.{◌≡◌, refl}
 use lib.Dec.{leb}
 use lib.ListN.{length}
-use Rattle.lexis.specs.Text.{Text, if◌then◌else◌}
+use Rattle.lexis.specs.Text.{Text}
 use Rattle.meaning.specs.Found.{Found, within}
 use Rattle.meaning.specs.Ordinary.{parse, high_from, refused, accepted, judged, read_ascii, ordinary}
 use Rattle.meaning.specs.Refusals as R

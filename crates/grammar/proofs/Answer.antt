@@ -1,4 +1,5 @@
 -- The strict reader's answer over its definition: there is one for every text, and no other. `answer` gives it by `read`.
+use Rattle.std.specs.Prelude.{if◌then◌else◌}
 use Prim.Native.Nat.{ℕ}
 use native.Mathlib.Omega.{arith}
 use mathlib.Core.Bool.{Bool, true, false, not}
@@ -7,13 +8,13 @@ use mathlib.Core.Option.{Option, none, some}
 use mathlib.Core.Path.{◌≡◌, refl, sym, ap, ◌∙◌}
 use lib.Dec.{T, leb}
 use lib.ListN.{length}
-use Rattle.lexis.specs.Text.{Text, if◌then◌else◌}
+use Rattle.lexis.specs.Text.{Text}
 use Rattle.meaning.specs.declared.Reading.{Reading}
 use Rattle.meaning.specs.declared.Refusal.TheVariants.{TooLong, HighByte, NotStrict, TooMany}
 use Rattle.meaning.specs.Ordinary.{high_from, refused}
 use Rattle.meaning.specs.Meant.{Any, fits, taken, Judged, accepted, too_many, not_strict, ReadAscii, Strictly}
 use Rattle.grammar.specs.Piece.{Answer, got, stuck}
-use Rattle.grammar.specs.Whole.{read, strict_sound, strict_complete}
+use Rattle.grammar.proofs.Whole.{read, strict_sound, strict_complete}
 
 abbrev pub judge : ℕ → Answer Any → Reading
 judge cap (got a []) = if fits cap a then taken cap a else refused cap TooMany 0

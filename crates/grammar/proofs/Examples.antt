@@ -18,7 +18,7 @@ use Rattle.meaning.specs.Meant.{Any, any, fits, taken}
 use Rattle.grammar.specs.Piece.{Answer, got, left}
 use Rattle.grammar.specs.Table.{◌↝◌}
 use Rattle.grammar.specs.Spelt.{zipped}
-use Rattle.grammar.specs.Whole.{read}
+use Rattle.grammar.proofs.Whole.{read}
 use Rattle.grammar.proofs.Answer.{answer}
 
 abbrev reading : String → Answer Any

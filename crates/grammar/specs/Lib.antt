@@ -1,4 +1,4 @@
--- The strict reader at the level of texts, from its pieces up, and its laws against the definition of strict forms.
+-- The strict reader at the level of texts, from its pieces up: what pieces are, how they are put together, and what they read.
 pub mod Tests
 pub mod Digits
 pub mod Piece
@@ -10,9 +10,5 @@ pub mod Spelt
 pub mod Several
 pub mod Pair
 pub mod Elements
-pub mod Body
-pub mod Sights
-pub mod Insides
 pub mod Head
-pub mod Whole
 pub mod Where

@@ -4,11 +4,11 @@ use Rattle.std.specs.Prelude.{ℕ, zero, suc, ◌<◌, Bool, true, false, ◌&&�
 use Rattle.std.proofs.Common.{arith, not-suc-le-zero, inl, inr, ap, ◌∙◌, ltb→lt, lt→ltb}
 use mathlib.Core.List as L
 use Rattle.std.proofs.Math.Dec.{eqb_refl}
-use Rattle.meaning.specs.Strict.{◌⊕◌, nth, word, rest}
+use Rattle.meaning.specs.Strict.{◌⊕◌, nth}
 use Rattle.meaning.specs.Meant.{each_of}
 use Rattle.grammar.specs.Tests.{and_left, and_right, and_in}
 use Rattle.grammar.specs.Piece.{apart, Piece}
-use Rattle.grammar.specs.Join.{map, bind, restate}
+use Rattle.grammar.specs.Join.{bind, restate}
 use Rattle.grammar.specs.Until.{Row}
 use Rattle.grammar.specs.Table.{table, ◌↝◌, Entry, Among, sound_table}
 

@@ -1,4 +1,5 @@
 -- Laws of blocks: one byte more is looked at, and a block without a hit is passed over.
+use Rattle.std.specs.Prelude.{if◌then◌else◌}
 use mathlib.Core.Path.{◌≡◌, refl, sym, ap, ◌∙◌}
 use mathlib.Core.Bool.{Bool, true, false, ◌&&◌, ◌||◌}
 use mathlib.Core.Option.{Option, none, some}
@@ -10,7 +11,7 @@ use native.Mathlib.Omega.{arith}
 use lib.Dec.{eqb}
 use lib.ListN.{length, take, drop, get_or, length-drop, drop_of_length-le}
 use lib.Seq.{drop-drop, get_or-drop}
-use Rattle.lexis.specs.Text.{if◌then◌else◌, begins, Cut, nowhere, at, later, cut, place, some_of, until}
+use Rattle.lexis.specs.Text.{begins, Cut, nowhere, at, later, cut, place, some_of, until}
 use Rattle.lexis.proofs.Lists.{view}
 use Rattle.lexis.proofs.Seeking.{never, shifted, miss, until_within}
 

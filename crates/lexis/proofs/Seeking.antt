@@ -1,4 +1,5 @@
 -- Laws of seeking: equality, prefixes, the first place of a text in a text, what stands before a byte.
+use Rattle.std.specs.Prelude.{if◌then◌else◌}
 use mathlib.Core.Path.{◌≡◌, refl, sym, ap, ◌∙◌}
 use mathlib.Core.Bool.{Bool, true, false, ◌&&◌, false≢true}
 use mathlib.Core.List.{List, [], ◌∷◌}
@@ -10,7 +11,7 @@ use lib.Dec.{eqb}
 use lib.ListN.{length, take, drop, get_or, drop_of_length-le}
 use lib.Seq.{drop-nil}
 use borrow.Author.Tests.{eq-eqb, ne_eqb, eqb-true, eqb-false}
-use Rattle.lexis.specs.Text.{if◌then◌else◌, same, begins, after, Cut, nowhere, at, later, cut, found, place, until}
+use Rattle.lexis.specs.Text.{same, begins, after, Cut, nowhere, at, later, cut, found, place, until}
 use Rattle.lexis.proofs.Lists.{view}
 
 -- ── prefixes, one byte at a time ──

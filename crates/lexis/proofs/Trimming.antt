@@ -1,4 +1,5 @@
 -- Laws of trimming, over any test of a byte: from the front by the rest of the text, from behind by its beginning.
+use Rattle.std.specs.Prelude.{if◌then◌else◌}
 use mathlib.Core.Path.{◌≡◌, refl, ap, ◌∙◌}
 use mathlib.Core.Bool.{Bool, true, false}
 use mathlib.Core.List.{List, [], ◌∷◌, ◌++◌}
@@ -6,7 +7,7 @@ use Prim.Native.Nat.{ℕ, suc, ◌+◌, ◌-◌, ◌≤◌, ◌<◌}
 use native.Mathlib.Omega.{arith}
 use lib.ListN.{length, take, drop, get_or, drop_of_length-le}
 use lib.Seq.{take-length}
-use Rattle.lexis.specs.Text.{if◌then◌else◌, less_leading, unless_last, less_trailing, white, trim}
+use Rattle.lexis.specs.Text.{less_leading, unless_last, less_trailing, white, trim}
 use Rattle.lexis.proofs.Lists.{view, behind}
 
 module _ (p : ℕ → Bool) where

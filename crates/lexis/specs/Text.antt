@@ -1,5 +1,5 @@
 -- Texts as lists of bytes: quoting, choosing, seeking, trimming (01, modules 1 and 3 to 7 lean on these).
-use Rattle.std.specs.Prelude.{ℕ, Bool, true, false, ◌&&◌, ◌||◌, List, [], ◌∷◌, leb, ltb, eqb, length}
+use Rattle.std.specs.Prelude.{if◌then◌else◌, ℕ, Bool, true, false, ◌&&◌, ◌||◌, List, [], ◌∷◌, leb, ltb, eqb, length}
 use Prim.Native.Char.{code}
 use Prim.Native.String as S
 use Prim.Native.String.{String}
@@ -14,11 +14,6 @@ Text = List ℕ
 abbrev pub bytes : String → Text
 bytes S.[] = []
 bytes (S.◌∷◌ c s) = code c ∷ bytes s
-
-infixr 10 if◌then◌else◌
-abbrev pub if◌then◌else◌ : {A : Type 0} → Bool → A → A → A
-if true then a else b = a
-if false then a else b = b
 
 -- ── seeking ──
 

@@ -1,4 +1,5 @@
 -- How large the counts of a list can be: no more entries fall back than there are, and a text has at most one part more than bytes.
+use Rattle.std.specs.Prelude.{if◌then◌else◌}
 use mathlib.Core.Path.{◌≡◌, refl, ap}
 use mathlib.Core.Bool.{Bool, true, false}
 use mathlib.Core.List as L
@@ -7,7 +8,7 @@ use Prim.Native.Nat.{ℕ, suc, ◌+◌, ◌-◌, ◌≤◌}
 use native.Mathlib.Omega.{arith}
 use lib.Dec.{eqb}
 use lib.ListN.{length}
-use Rattle.lexis.specs.Text.{Text, if◌then◌else◌, onto_first, until, split}
+use Rattle.lexis.specs.Text.{Text, onto_first, until, split}
 use Rattle.lexis.proofs.Seeking.{until_within}
 use Rattle.meaning.specs.Parts.{front}
 use Rattle.meaning.specs.Found.{Entry, Clause, stands, filled, values, unreadable, lacking}

@@ -1,4 +1,5 @@
 -- What an entry is, by the tests and answers that the code has of its trimmed text t, or by its numeral where that is known.
+use Rattle.std.specs.Prelude.{if◌then◌else◌}
 use mathlib.Core.Path.{◌≡◌, refl, sym, ap, ◌∙◌}
 use mathlib.Core.Bool.{Bool, true, false, ◌&&◌}
 use mathlib.Core.List.{[], ◌∷◌}
@@ -9,7 +10,7 @@ use borrow.Author.Tests.{eqb-true}
 use lib.Dec.{eqb}
 use lib.IntN.{ℤ, negsuc}
 use lib.ListN.{length, take, drop}
-use Rattle.lexis.specs.Text.{Text, bytes, if◌then◌else◌, same, trim, until}
+use Rattle.lexis.specs.Text.{Text, bytes, same, trim, until}
 use Rattle.lexis.proofs.Lists.{rest}
 use Rattle.numerals.proofs.Walking.{absent, sought_part}
 use Rattle.numerals.specs.Numeral.{numeral}

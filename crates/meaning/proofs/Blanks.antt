@@ -1,5 +1,6 @@
 -- Laws of blank entries, over every width and capacity: the machine's test for zero is `is_zero`, and a list is clear by
 -- its length first and then entry by entry.
+use Rattle.std.specs.Prelude.{if◌then◌else◌}
 use Prim.Native.Nat.{ℕ, suc, ◌+◌, ◌-◌, ◌^◌, ◌≤◌, ◌<◌}
 use native.Mathlib.Omega.{arith}
 use native.Mathlib.Numerals.{add-one}
@@ -14,7 +15,6 @@ use lib.Seq.{drop-cons}
 use mir.Syntax.{Width}
 use mir.Val.{SFits, bits, of_z, to_z}
 use mir.ValLaws.{to_z_pos, to_z-neg}
-use Rattle.lexis.specs.Text.{if◌then◌else◌}
 use Rattle.meaning.specs.Normal.{is_zero, all_zero, clear}
 
 -- the bits of z are 0 exactly when z is: no negative number of w bits has them

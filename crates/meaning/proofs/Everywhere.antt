@@ -1,5 +1,6 @@
 -- What holds of everything that the definition makes holds of what every text is read as: over all forms, marks and passes.
 -- From it, what holds of every answer of the ordinary reader.
+use Rattle.std.specs.Prelude.{if◌then◌else◌}
 use Prim.Native.Nat.{ℕ, zero, suc}
 use Prim.Native.Char.{code}
 use mathlib.Core.Bool.{Bool, true, false, ◌||◌}
@@ -8,7 +9,7 @@ use mathlib.Core.Option.{Option, none, some}
 use mathlib.Core.Path.{◌≡◌, refl}
 use lib.Dec.{leb}
 use lib.ListN.{length}
-use Rattle.lexis.specs.Text.{Text, bytes, if◌then◌else◌, same, trim, split, Cut, nowhere, at, cut}
+use Rattle.lexis.specs.Text.{Text, bytes, same, trim, split, Cut, nowhere, at, cut}
 use Rattle.scalars.specs.Names.{scalar_name}
 use Rattle.scalars.specs.declared.scalar.Scalar.{Scalar}
 use Rattle.meaning.specs.declared.Kind.TheVariants as K

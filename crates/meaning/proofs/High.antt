@@ -1,4 +1,5 @@
 -- The first byte of 128 or more, by how many bytes stand before it.
+use Rattle.std.specs.Prelude.{if◌then◌else◌}
 use Prim.Native.Nat.{ℕ, suc, ◌+◌, ◌≤◌, ◌<◌}
 use native.Mathlib.Omega.{arith}
 use mathlib.Core.Bool.{Bool, true, false}
@@ -8,7 +9,7 @@ use mathlib.Core.Path.{◌≡◌, refl, ap, ◌∙◌}
 use borrow.Author.Tests.{le-ltb}
 use lib.Dec.{leb}
 use lib.ListN.{length}
-use Rattle.lexis.specs.Text.{Text, if◌then◌else◌, outside, until}
+use Rattle.lexis.specs.Text.{Text, outside, until}
 use Rattle.meaning.specs.Ordinary.{high_from}
 
 abbrev low : Text → ℕ

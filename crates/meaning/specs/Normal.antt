@@ -1,7 +1,6 @@
 -- Normal records (01, "Records and numbers"): no length exceeds the capacity, and everything that the kind doesn't use,
 -- entries past a length included, is blank: zero, I1, false, no padding.
-use Rattle.std.specs.Prelude.{ℕ, Bool, true, false, ◌&&◌, ◌||◌, not, List, [], ◌∷◌, eqb, leb, ℤ, pos, negsuc, drop}
-use Rattle.lexis.specs.Text.{if◌then◌else◌}
+use Rattle.std.specs.Prelude.{if◌then◌else◌, ℕ, Bool, true, false, ◌&&◌, ◌||◌, not, List, [], ◌∷◌, eqb, leb, ℤ, pos, negsuc, drop}
 use Rattle.scalars.specs.declared.scalar.Scalar.{Scalar}
 use Rattle.scalars.specs.declared.scalar.Scalar.TheVariants.{I1, I4, I8, I16, I32, I64, F16, BF16, F32, TF32, F64, F8E4M3FN, F8E5M2, F8E8M0FNU, F4E2M1FN, F8E5M3FNU}
 use Rattle.meaning.specs.declared.Kind.{Kind}

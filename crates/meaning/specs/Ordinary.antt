@@ -1,8 +1,8 @@
 -- `Type::parse` (01, module 7), and what the ordinary reader answers.
-use Rattle.std.specs.Prelude.{ℕ, zero, suc, Bool, true, false, ◌||◌, List, [], ◌∷◌, leb, length}
+use Rattle.std.specs.Prelude.{if◌then◌else◌, ℕ, zero, suc, Bool, true, false, ◌||◌, List, [], ◌∷◌, leb, length}
 use Prim.Native.String.{String}
 use Rattle.std.proofs.Math.Option.{Option, none, some}
-use Rattle.lexis.specs.Text.{Text, bytes, if◌then◌else◌, same, trim, Cut, nowhere, at, cut}
+use Rattle.lexis.specs.Text.{Text, bytes, same, trim, Cut, nowhere, at, cut}
 use Rattle.scalars.specs.Names.{scalar_name}
 use Rattle.meaning.specs.Parts.{each, bracketed, remove}
 use Rattle.meaning.specs.Found.{Found, plain, token, with_attribute, flat, within, counts, unnoted}

@@ -1,9 +1,9 @@
 -- Tiles and tensor views (01, modules 4 and 5).
-use Rattle.std.specs.Prelude.{ℕ, ◌^◌, Bool, true, false, List, [], ◌∷◌, eqb, ℤ, pos, neg_ℤ, length, replicate}
+use Rattle.std.specs.Prelude.{if◌then◌else◌, ℕ, ◌^◌, Bool, true, false, List, [], ◌∷◌, eqb, ℤ, pos, neg_ℤ, length, replicate}
 use Prim.Native.Char.{code}
 use mathlib.Core.List as L
 use Rattle.std.proofs.Math.Option.{Option, none, some}
-use Rattle.lexis.specs.Text.{Text, bytes, if◌then◌else◌, same, trim, less_leading, less_trailing, split, Cut, nowhere, at, cut}
+use Rattle.lexis.specs.Text.{Text, bytes, same, trim, less_leading, less_trailing, split, Cut, nowhere, at, cut}
 use Rattle.numerals.specs.Numeral.{numeral}
 use Rattle.scalars.specs.Names.{scalar_name}
 use Rattle.scalars.specs.declared.scalar.Scalar.{Scalar}

@@ -1,9 +1,9 @@
 -- The three views (01, module 6).
-use Rattle.std.specs.Prelude.{ℕ, zero, suc, ◌+◌, Bool, true, false, ◌||◌, ◌&&◌, not, List, [], ◌∷◌, eqb, ℤ, pos, length, replicate}
+use Rattle.std.specs.Prelude.{if◌then◌else◌, ℕ, zero, suc, ◌+◌, Bool, true, false, ◌||◌, ◌&&◌, not, List, [], ◌∷◌, eqb, ℤ, pos, length, replicate}
 use Prim.Native.Char.{code}
 use mathlib.Core.List as L
 use Rattle.std.proofs.Math.Option.{Option, none, some}
-use Rattle.lexis.specs.Text.{Text, bytes, if◌then◌else◌, trim, until, split, Cut, nowhere, at, cut, occurs}
+use Rattle.lexis.specs.Text.{Text, bytes, trim, until, split, Cut, nowhere, at, cut, occurs}
 use Rattle.numerals.specs.Numeral.{numeral}
 use Rattle.meaning.specs.Parts.{each, between, close}
 use Rattle.meaning.specs.Found.{Entry, Clause, stands, filled, Found, made, unused}

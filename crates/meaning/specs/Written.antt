@@ -1,8 +1,8 @@
 -- Written text (01, "Written text"): the text of a record's plain form, so that being strict holds by construction; which
 -- records have none; and what the writer answers and leaves in the room.
-use Rattle.std.specs.Prelude.{ℕ, ◌-◌, ◌^◌, Bool, true, false, List, [], ◌∷◌, ◌++◌, map, eqb, leb, ℤ, pos, negsuc, length, take, drop}
+use Rattle.std.specs.Prelude.{if◌then◌else◌, ℕ, ◌-◌, ◌^◌, Bool, true, false, List, [], ◌∷◌, ◌++◌, map, eqb, leb, ℤ, pos, negsuc, length, take, drop}
 use Rattle.std.proofs.Math.Option.{Option, none, some}
-use Rattle.lexis.specs.Text.{Text, if◌then◌else◌}
+use Rattle.lexis.specs.Text.{Text}
 use Rattle.scalars.specs.declared.scalar.Scalar.{Scalar}
 use Rattle.scalars.specs.declared.scalar.Scalar.TheVariants.{I1, I4, I8, I16, I32, I64, F16, BF16, F32, TF32, F64, F8E4M3FN, F8E5M2, F8E8M0FNU, F4E2M1FN, F8E5M3FNU}
 use Rattle.meaning.specs.declared.Kind.{Kind}

@@ -1,6 +1,5 @@
 // The blank record, and whether a record is normal (01, "Records and numbers").
-ghost use Rattle.std.specs.Prelude.{◌≡◌};
-ghost use Rattle.lexis.specs.Text.{if◌then◌else◌};
+ghost use Rattle.std.specs.Prelude.{if◌then◌else◌, ◌≡◌};
 ghost use Rattle.meaning.specs.Found.{flat, token};
 ghost use Rattle.meaning.specs.Normal.{is_zero, is_i1, is_absent, row, uses, clear, lists_clear, rest_blank, normal};
 

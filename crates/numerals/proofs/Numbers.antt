@@ -1,4 +1,5 @@
 -- Laws of numerals: digits read one at a time under a limit, the sign, the range; and that this is the definition, at any width.
+use Rattle.std.specs.Prelude.{if◌then◌else◌}
 use mathlib.Core.Path.{◌≡◌, refl, sym, ap, subst, ◌∙◌}
 use mathlib.Core.Bool.{Bool, true, false}
 use mathlib.Core.List.{List, [], ◌∷◌}
@@ -9,7 +10,6 @@ use lib.Dec.{eqb, leb}
 use lib.IntN.{ℤ, pos}
 use lib.ListN.{length, take, drop, get_or, drop_of_length-le}
 use borrow.Author.Tests.{le-leb, lt-leb, leb-true, ne_eqb}
-use Rattle.lexis.specs.Text.{if◌then◌else◌}
 use Rattle.numerals.specs.Numeral.{digit, number_from, number, at_most, minus, numeral}
 use Rattle.numerals.specs.Parts.{under, positive, negative, sized}
 use Rattle.numerals.specs.declared.numeral.Size.{Size}

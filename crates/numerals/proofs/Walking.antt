@@ -1,5 +1,6 @@
 -- Laws of a part that is walked once: white bytes, a sign, digits up to a byte that passes a test p, which none of these passes.
 -- What is passed is left out of the part's length, of its trimmed text and of its number.
+use Rattle.std.specs.Prelude.{if◌then◌else◌}
 use mathlib.Core.Path.{◌≡◌, refl, sym, ap, subst, ◌∙◌}
 use mathlib.Core.Bool.{Bool, true, false, ◌&&◌, ◌||◌, not, false≢true}
 use mathlib.Core.List.{[], ◌∷◌}
@@ -10,7 +11,7 @@ use borrow.Author.Tests.{eqb-true, eqb-false, ltb-true, leb-true, leb-false, ne_
 use lib.Dec.{eqb, leb, ltb}
 use lib.IntN.{pos}
 use lib.ListN.{length, take, drop, get_or, drop_of_length-le, get_or-eq_default}
-use Rattle.lexis.specs.Text.{Text, if◌then◌else◌, until, less_trailing, unless_last, white, trim}
+use Rattle.lexis.specs.Text.{Text, until, less_trailing, unless_last, white, trim}
 use Rattle.numerals.specs.Numeral.{digit, number_from, number, at_most, minus, numeral}
 use Rattle.numerals.specs.Parts.{ink, apart, odd}
 use Rattle.lexis.proofs.Lists.{view}

@@ -1,8 +1,8 @@
 -- Numerals (01, module 1): an optional sign, then one or more digits, in range; leading zeros are fine.
-use Rattle.std.specs.Prelude.{ℕ, ◌+◌, ◌-◌, ◌*◌, ◌^◌, Bool, ◌&&◌, [], ◌∷◌, leb, eqb, ℤ, pos, neg_ℤ}
+use Rattle.std.specs.Prelude.{if◌then◌else◌, ℕ, ◌+◌, ◌-◌, ◌*◌, ◌^◌, Bool, ◌&&◌, [], ◌∷◌, leb, eqb, ℤ, pos, neg_ℤ}
 use Prim.Native.Char.{code}
 use Rattle.std.proofs.Math.Option.{Option, none, some}
-use Rattle.lexis.specs.Text.{Text, if◌then◌else◌}
+use Rattle.lexis.specs.Text.{Text}
 use Rattle.numerals.specs.declared.numeral.Number64.{Number64}
 use Rattle.numerals.specs.declared.numeral.Number64.TheVariants as N64
 use Rattle.numerals.specs.declared.numeral.Number32.{Number32}

@@ -1,8 +1,8 @@
 -- What private helpers answer, for their own contracts: no public contract cites these.
-use Rattle.std.specs.Prelude.{ℕ, suc, ◌+◌, ◌≤◌, Bool, ◌&&◌, ◌||◌, not, [], ◌∷◌, ◌≡◌, leb, ltb, eqb, length, get_or}
+use Rattle.std.specs.Prelude.{if◌then◌else◌, ℕ, suc, ◌+◌, ◌≤◌, Bool, ◌&&◌, ◌||◌, not, [], ◌∷◌, ◌≡◌, leb, ltb, eqb, length, get_or}
 use Prim.Native.Char.{code}
 use Rattle.std.proofs.Math.Option.{Option, none, some}
-use Rattle.lexis.specs.Text.{Text, if◌then◌else◌, until, less_trailing, white}
+use Rattle.lexis.specs.Text.{Text, until, less_trailing, white}
 use Rattle.numerals.specs.Numeral.{number}
 use Rattle.numerals.specs.declared.numeral.Magnitude.{Magnitude}
 use Rattle.numerals.specs.declared.numeral.Magnitude.TheVariants.{Of, NoDigits}

@@ -1,5 +1,6 @@
 -- The strict reader asked first: what it doesn't refuse with 5 is the ordinary reader's answer (demand 3, `accord`); what it does is short and
 -- ASCII, so that the port's answer is the ordinary reader's.
+use Rattle.std.specs.Prelude.{if◌then◌else◌}
 use Prim.Native.Nat.{ℕ}
 use native.Mathlib.Omega.{arith}
 use mathlib.Core.Bool.{Bool, true, false}
@@ -7,7 +8,7 @@ use mathlib.Core.Option.{Option, none, some}
 use mathlib.Core.Path.{◌≡◌, refl, sym, ap, ◌∙◌}
 use lib.Dec.{leb}
 use lib.ListN.{length}
-use Rattle.lexis.specs.Text.{Text, if◌then◌else◌}
+use Rattle.lexis.specs.Text.{Text}
 use Rattle.meaning.specs.Refusals.{number}
 use Rattle.meaning.specs.Ordinary.{parse, high_from, refused, judged, read_ascii, ordinary}
 use Rattle.meaning.specs.Meant.{ReadAscii, Strictly}

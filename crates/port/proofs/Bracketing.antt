@@ -1,4 +1,5 @@
 -- Laws of bracket cutting: a `>` at the end, and for callers the content by its length.
+use Rattle.std.specs.Prelude.{if◌then◌else◌}
 use Prim.Native.Nat.{ℕ, ◌+◌, ◌-◌, ◌≤◌, ◌<◌}
 use native.Mathlib.Nat.{suc-add}
 use native.Mathlib.Omega.{arith}
@@ -10,7 +11,7 @@ use borrow.Author.Tests.{ne_eqb}
 use lib.Dec.{eqb}
 use lib.ListN.{length, take, drop, get_or, length-drop}
 use lib.Seq.{take-length, length-take-le}
-use Rattle.lexis.specs.Text.{Text, if◌then◌else◌, begins, after, Cut, nowhere, at, later, place}
+use Rattle.lexis.specs.Text.{Text, begins, after, Cut, nowhere, at, later, place}
 use Rattle.lexis.proofs.Lists.{behind, rest}
 use Rattle.lexis.proofs.Seeking.{Reach, begins_within, after_drop}
 use Rattle.meaning.specs.Parts.{each, depth, close, less_final, content_by, content, bracketed}

@@ -1,5 +1,6 @@
 -- Laws of a view's clauses, by what the seekers tell: the padding, a text behind another, a list in brackets, entries, the sparse dimension,
 -- and what a list or what fills in for it is laid as.
+use Rattle.std.specs.Prelude.{if◌then◌else◌}
 use Prim.Native.Nat.{ℕ, ◌+◌, ◌-◌, ◌≤◌}
 use native.Mathlib.Omega.{arith}
 use mathlib.Core.Bool.{Bool, true, false, ◌||◌, ◌&&◌, not}
@@ -10,7 +11,7 @@ use lib.Dec.{eqb}
 use lib.IntN.{pos}
 use lib.ListN.{length, take, drop, length-drop}
 use lib.Seq.{drop-drop, length-take-le}
-use Rattle.lexis.specs.Text.{Text, bytes, if◌then◌else◌, split, Cut, nowhere, at, cut, place, occurs, until}
+use Rattle.lexis.specs.Text.{Text, bytes, split, Cut, nowhere, at, cut, place, occurs, until}
 use Rattle.lexis.proofs.Lists.{rest}
 use Rattle.lexis.proofs.Seeking.{turned, cut_at, cut_within, cut_nowhere, until_take, until_within}
 use Rattle.meaning.specs.Found.{Clause, stands, filled, values}

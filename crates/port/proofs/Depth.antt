@@ -1,4 +1,5 @@
 -- Laws of the matching bracket: how many stand open after a byte, the match one byte on, and past all bytes that are no anchors.
+use Rattle.std.specs.Prelude.{if◌then◌else◌}
 use Prim.Native.Nat.{ℕ, zero, suc, ◌+◌, ◌-◌, ◌≤◌, ◌<◌}
 use native.Mathlib.Nat.{add-zero}
 use native.Mathlib.Numerals.{add-one, sub-one}
@@ -11,7 +12,7 @@ use borrow.Author.Tests.{ne_eqb}
 use lib.Dec.{eqb}
 use lib.ListN.{length, drop, get_or, drop_of_length-le}
 use lib.Seq.{drop-drop}
-use Rattle.lexis.specs.Text.{if◌then◌else◌, Cut, nowhere, at, later, place, until}
+use Rattle.lexis.specs.Text.{Cut, nowhere, at, later, place, until}
 use Rattle.lexis.proofs.Lists.{view}
 use Rattle.lexis.proofs.Seeking.{shifted, unshifted}
 use Rattle.lexis.proofs.Passing.{shifted_twice, one_later}

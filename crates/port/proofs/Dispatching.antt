@@ -1,5 +1,6 @@
 -- Laws of the dispatch: the forms that were passed over, the form that applies and decides, a bare name at last; and both
 -- spellings of a form read as one, `!cuda_tile.` taken off.
+use Rattle.std.specs.Prelude.{if◌then◌else◌}
 use mathlib.Core.Bool.{Bool, true, false, ◌&&◌, ◌||◌, false≢true}
 use mathlib.Core.List.{List, [], ◌∷◌, ◌++◌}
 use mathlib.Core.Option.{Option, none, some}
@@ -7,7 +8,7 @@ use mathlib.Core.Path.{◌≡◌, refl, subst, sym, ap, ◌∙◌}
 use lib.Dec.{eqb}
 use borrow.Author.Tests.{eqb-true}
 use lib.ListN.{length, drop}
-use Rattle.lexis.specs.Text.{Text, bytes, if◌then◌else◌, same, begins}
+use Rattle.lexis.specs.Text.{Text, bytes, same, begins}
 use Rattle.scalars.specs.Names.{scalar_name}
 use Rattle.scalars.specs.declared.scalar.Scalar.{Scalar}
 use Rattle.scalars.specs.declared.scalar.Scalar.TheVariants.{I1}

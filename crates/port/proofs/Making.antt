@@ -1,4 +1,5 @@
 -- Record and note that are made of what is carried are those of what was found; a list that was read is sound, so that counts add up.
+use Rattle.std.specs.Prelude.{if◌then◌else◌}
 use Prim.Native.Nat.{ℕ, zero, suc, ◌≤◌}
 use native.Mathlib.Omega.{arith}
 use mathlib.Core.Bool.{Bool, true, false, ◌&&◌, ◌||◌, false≢true}
@@ -9,7 +10,6 @@ use borrow.Author.Tests.{leb-true}
 use lib.Dec.{leb}
 use lib.IntN.{ℤ, pos}
 use lib.ListN.{length, get_or}
-use Rattle.lexis.specs.Text.{if◌then◌else◌}
 use Rattle.meaning.specs.Found.{Clause, stands, filled, values, padded, Found, flat, within, unreadable, lacking, counts, with_attribute}
 use Rattle.meaning.specs.Parts.{each}
 use Rattle.meaning.specs.Ordinary.{refused, accepted, judged}

@@ -1,5 +1,6 @@
 -- Laws of the mark passes: what is left without marks is shorter or the text itself; the passes of the definition are those of the code with
 -- the attribute set once; fuel past the length says the same.
+use Rattle.std.specs.Prelude.{if◌then◌else◌}
 use Prim.Native.Nat.{ℕ, zero, suc, ◌≤◌, ◌<◌}
 use native.Mathlib.Nat.{not-suc-le-zero}
 use native.Mathlib.Omega.{arith}
@@ -10,7 +11,7 @@ use borrow.Author.Tests.{le-leb, lt-leb}
 use lib.Dec.{leb}
 use lib.ListN.{length, take}
 use lib.Seq.{length-take-le}
-use Rattle.lexis.specs.Text.{Text, if◌then◌else◌, trim, Cut, nowhere, at, cut, place, found, occurs}
+use Rattle.lexis.specs.Text.{Text, trim, Cut, nowhere, at, cut, place, found, occurs}
 use Rattle.lexis.proofs.Seeking.{cut_nowhere, nowhere_short}
 use Rattle.lexis.proofs.Trimming.{trim_within}
 use Rattle.meaning.specs.Found.{Found, with_attribute}

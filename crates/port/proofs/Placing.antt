@@ -1,4 +1,5 @@
 -- What the sighted places say of a content c, for callers; and of a content that ends at a final `>`, one byte before the text.
+use Rattle.std.specs.Prelude.{if◌then◌else◌}
 use Prim.Native.Nat.{ℕ, zero, suc, ◌+◌, ◌-◌, ◌≤◌, ◌<◌}
 use native.Mathlib.Omega.{arith}
 use mathlib.Core.Bool.{Bool, true, false}
@@ -8,7 +9,7 @@ use mathlib.Core.Path.{◌≡◌, refl, sym, ap, subst, ◌∙◌}
 use lib.Dec.{eqb}
 use lib.ListN.{length, take, drop, get_or, length-take, length-drop, drop_of_length-le}
 use lib.Seq.{get_or-drop, drop-drop, length-take-le}
-use Rattle.lexis.specs.Text.{Text, bytes, if◌then◌else◌, begins, after, Cut, nowhere, at, later, cut, place, some_of}
+use Rattle.lexis.specs.Text.{Text, bytes, begins, after, Cut, nowhere, at, later, cut, place, some_of}
 use Rattle.lexis.proofs.Seeking.{cut_at, cut_nowhere, cut_within}
 use Rattle.meaning.specs.Views.{opened}
 use Rattle.port.specs.Seen.{seen}

@@ -1,4 +1,5 @@
 -- Laws of removing a text m, that is not empty, from a text: it is removed at its first place, and then from what follows.
+use Rattle.std.specs.Prelude.{if◌then◌else◌}
 use Prim.Native.Nat.{ℕ, zero, suc, ◌+◌, ◌-◌, ◌≤◌, ◌<◌}
 use native.Mathlib.Nat.{add_assoc, add-zero}
 use native.Mathlib.Numerals.{add-one, sub-one}
@@ -9,7 +10,7 @@ use mathlib.Core.Option.{none, some}
 use mathlib.Core.Path.{◌≡◌, refl, sym, ap, subst, ◌∙◌}
 use lib.ListN.{length, take, drop, set, get_or, length-set, length-append, length-drop}
 use lib.Seq.{take-suc, take-suc-set, take_all, length-take-le}
-use Rattle.lexis.specs.Text.{Text, bytes, if◌then◌else◌, begins, after, Cut, nowhere, at, later, cut, found, place, spot, occurs}
+use Rattle.lexis.specs.Text.{Text, bytes, begins, after, Cut, nowhere, at, later, cut, found, place, spot, occurs}
 use Rattle.lexis.specs.declared.text.Found.{Found}
 use Rattle.lexis.specs.declared.text.Found.TheVariants.{At, Nowhere}
 use Rattle.lexis.proofs.Lists.{rest}

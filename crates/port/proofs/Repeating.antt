@@ -1,4 +1,5 @@
 -- Laws of dropping a text m, that is not empty, over and over from the end: the last `length m` bytes decide.
+use Rattle.std.specs.Prelude.{if◌then◌else◌}
 use Prim.Native.Nat.{ℕ, zero, suc, ◌+◌, ◌-◌, ◌≤◌, ◌<◌}
 use native.Mathlib.Omega.{arith}
 use mathlib.Core.Bool.{Bool, true, false, ◌&&◌}
@@ -8,7 +9,7 @@ use lib.Dec.{eqb, leb}
 use lib.ListN.{length, take, drop, length-drop}
 use lib.Seq.{take-add, length-take-le}
 use borrow.Author.Tests.{eq-eqb, leb-true, leb-false}
-use Rattle.lexis.specs.Text.{if◌then◌else◌, begins}
+use Rattle.lexis.specs.Text.{begins}
 use Rattle.lexis.proofs.Seeking.{begins_within}
 use Rattle.meaning.specs.Parts.{only, less_repeats}
 

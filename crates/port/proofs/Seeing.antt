@@ -1,4 +1,5 @@
 -- Laws of what is seen: one byte more, an anchor, a block, an end, a later start.
+use Rattle.std.specs.Prelude.{if◌then◌else◌}
 use Prim.Native.Nat.{ℕ, zero, suc, ◌+◌, ◌-◌, ◌≤◌, ◌<◌}
 use native.Mathlib.Nat.{add-zero}
 use native.Mathlib.Numerals.{add-one}
@@ -11,7 +12,7 @@ use borrow.Author.Tests.{eqb-true, eq-eqb, ltb-true, ltb-false}
 use lib.Dec.{eqb, ltb}
 use lib.ListN.{length, take, drop, get_or, length-take}
 use lib.Seq.{get_or-drop, take_all}
-use Rattle.lexis.specs.Text.{Text, if◌then◌else◌, begins, after, Cut, nowhere, at, later, cut, place, some_of}
+use Rattle.lexis.specs.Text.{Text, begins, after, Cut, nowhere, at, later, cut, place, some_of}
 use Rattle.lexis.proofs.Seeking.{never, right, shifted, unshifted, hit, cut_within}
 use Rattle.lexis.proofs.Passing.{one_later, grown}
 use Rattle.port.specs.Seen.{seen}

@@ -1,4 +1,5 @@
 -- Laws of a number that says what is seen of one keyword p, which is known by its byte j, with m bytes behind it.
+use Rattle.std.specs.Prelude.{if◌then◌else◌}
 use Prim.Native.Nat.{ℕ, suc, ◌+◌, ◌-◌, ◌≤◌, ◌<◌}
 use native.Mathlib.Nat.{add-zero}
 use native.Mathlib.Omega.{arith}
@@ -9,7 +10,7 @@ use mathlib.Core.Path.{◌≡◌, refl, sym, ap, subst, ◌∙◌}
 use borrow.Author.Tests.{lt-ltb, le-ltb, ltb-true, ltb-false, eqb-false}
 use lib.Dec.{eqb, ltb}
 use lib.ListN.{length, take, drop, get_or, length-take, length-drop}
-use Rattle.lexis.specs.Text.{Text, if◌then◌else◌, begins, cut, place, some_of, until}
+use Rattle.lexis.specs.Text.{Text, begins, cut, place, some_of, until}
 use Rattle.lexis.proofs.Lists.{rest, view}
 use Rattle.lexis.proofs.Seeking.{nowhere_short, cut_within}
 use Rattle.port.specs.Seen.{seen, told, Sight, key}

@@ -1,4 +1,5 @@
 -- Laws of what the three views share, by what the callees tell: the tile shape, the inner tensor view, the whole view; and of the three views themselves.
+use Rattle.std.specs.Prelude.{if◌then◌else◌}
 use Prim.Native.Nat.{ℕ, ◌+◌, ◌-◌, ◌≤◌, ◌<◌}
 use native.Mathlib.Omega.{arith}
 use mathlib.Core.Bool.{Bool, true, false, false≢true}
@@ -7,7 +8,7 @@ use mathlib.Core.Option.{Option, none, some}
 use mathlib.Core.Path.{◌≡◌, refl, sym, ap, subst, ◌∙◌}
 use lib.IntN.{pos}
 use lib.ListN.{length, take, drop, replicate, length-map}
-use Rattle.lexis.specs.Text.{Text, bytes, if◌then◌else◌, split, Cut, nowhere, at, cut, place, spot}
+use Rattle.lexis.specs.Text.{Text, bytes, split, Cut, nowhere, at, cut, place, spot}
 use Rattle.lexis.proofs.Lists.{rest}
 use Rattle.lexis.proofs.Seeking.{cut_at, cut_nowhere}
 use Rattle.meaning.specs.Found.{Entry, Clause, stands, filled, unused}

@@ -1,5 +1,6 @@
 -- The first place of the mark, by two of its bytes: a mark has a `#`, and its one `>` at its end.
 -- So the first `>` behind a `#` ends the first mark, or no mark stands before it.
+use Rattle.std.specs.Prelude.{if◌then◌else◌}
 use mathlib.Core.Path.{◌≡◌, refl, sym, ap, ◌∙◌}
 use mathlib.Core.Bool.{Bool, true, false, ◌&&◌, false≢true}
 use mathlib.Core.List.{List, [], ◌∷◌}
@@ -11,7 +12,7 @@ use borrow.Author.Tests.{eqb-true, eqb-false}
 use lib.Dec.{eqb}
 use lib.ListN.{length, take, drop, get_or, length-drop}
 use lib.Seq.{get_or-drop}
-use Rattle.lexis.specs.Text.{if◌then◌else◌, begins, cut, place, until}
+use Rattle.lexis.specs.Text.{begins, cut, place, until}
 use Rattle.lexis.proofs.Lists.{rest}
 use Rattle.lexis.proofs.Seeking.{right, shifted, hit, miss, gone, begins_within}
 use Rattle.port.proofs.Removal.{sought}

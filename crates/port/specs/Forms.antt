@@ -1,7 +1,7 @@
 -- The forms with `!cuda_tile.` taken off: both spellings are read by one list (for private contracts).
-use Rattle.std.specs.Prelude.{List, [], ◌∷◌, drop}
+use Rattle.std.specs.Prelude.{if◌then◌else◌, List, [], ◌∷◌, drop}
 use Rattle.std.proofs.Math.Option.{Option, none, some}
-use Rattle.lexis.specs.Text.{Text, bytes, if◌then◌else◌, begins}
+use Rattle.lexis.specs.Text.{Text, bytes, begins}
 use Rattle.scalars.specs.Names.{scalar_name}
 use Rattle.meaning.specs.Found.{Found, plain}
 use Rattle.meaning.specs.Parts.{each, bracketed}

@@ -1,8 +1,8 @@
 -- The first place of a text among the first bytes of another.
-use Rattle.std.specs.Prelude.{ℕ, suc, ◌+◌, ◌-◌, Bool, ◌&&◌, ◌||◌, ◌≡◌, ltb, leb, eqb, length, take, get_or}
+use Rattle.std.specs.Prelude.{if◌then◌else◌, ℕ, suc, ◌+◌, ◌-◌, Bool, ◌&&◌, ◌||◌, ◌≡◌, ltb, leb, eqb, length, take, get_or}
 use Prim.Native.Char.{code}
 use Rattle.std.proofs.Math.Option.{Option, none, some}
-use Rattle.lexis.specs.Text.{Text, if◌then◌else◌, cut, place}
+use Rattle.lexis.specs.Text.{Text, cut, place}
 
 -- the first place of p that ends within the first n bytes of s
 abbrev pub seen : Text → ℕ → Text → Option ℕ

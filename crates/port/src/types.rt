@@ -1,6 +1,5 @@
 // `Type::parse` (01, module 7).
-ghost use Rattle.std.specs.Prelude.{suc, ◌≤◌, ◌≡◌, true, leb, take, drop, length};
-ghost use Rattle.lexis.specs.Text.{if◌then◌else◌};
+ghost use Rattle.std.specs.Prelude.{if◌then◌else◌, suc, ◌≤◌, ◌≡◌, true, leb, take, drop, length};
 ghost use Rattle.meaning.specs.Parts.{each};
 ghost use Rattle.meaning.specs.Ordinary as O;
 ghost use Rattle.meaning.specs.Ordinary.{pointer, unmarked, judged, refused};

@@ -1,4 +1,5 @@
 -- Laws of names: the entries of a table one at a time, and that what a text names stands among the names of its own length.
+use Rattle.std.specs.Prelude.{if◌then◌else◌}
 use mathlib.Core.Path.{◌≡◌, refl, sym, ap, ◌∙◌}
 use mathlib.Core.Bool.{Bool, true, false, ◌&&◌, ◌||◌, false≢true}
 use mathlib.Core.List.{List, [], ◌∷◌, map}
@@ -10,7 +11,7 @@ use lib.Dec.{eqb}
 use lib.ListN.{length, take, drop, get_or, length-drop, drop_of_length-le}
 use lib.Seq.{drop-drop}
 use borrow.Author.Tests.{eqb-true, eqb-false, ne_eqb}
-use Rattle.lexis.specs.Text.{Text, bytes, if◌then◌else◌, same, begins, trim}
+use Rattle.lexis.specs.Text.{Text, bytes, same, begins, trim}
 use Rattle.scalars.specs.Names.{Name, names, named_in, scalar_name}
 use Rattle.scalars.specs.Rows.{rows_of, rows, which}
 use Rattle.scalars.specs.declared.scalar.Scalar.{Scalar}

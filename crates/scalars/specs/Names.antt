@@ -1,8 +1,8 @@
 -- Scalars (01, module 2): the 16 types, their 22 accepted spellings, widths and classes.
-use Rattle.std.specs.Prelude.{ℕ, ◌*◌, Bool, true, false, List, [], ◌∷◌}
+use Rattle.std.specs.Prelude.{if◌then◌else◌, ℕ, ◌*◌, Bool, true, false, List, [], ◌∷◌}
 use Prim.Native.String.{String}
 use Rattle.std.proofs.Math.Option.{Option, none, some}
-use Rattle.lexis.specs.Text.{Text, bytes, if◌then◌else◌, same, trim}
+use Rattle.lexis.specs.Text.{Text, bytes, same, trim}
 use Rattle.scalars.specs.declared.scalar.Scalar.{Scalar}
 use Rattle.scalars.specs.declared.scalar.Scalar.TheVariants.{I1, I4, I8, I16, I32, I64, F16, BF16, F32, TF32, F64, F8E4M3FN, F8E5M2, F8E8M0FNU, F4E2M1FN, F8E5M3FNU}
 use Rattle.scalars.specs.declared.scalar.Named.{Named}

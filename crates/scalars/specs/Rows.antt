@@ -1,6 +1,6 @@
 -- Tables of names of one length, for private contracts: no public contract cites these.
-use Rattle.std.specs.Prelude.{ℕ, zero, suc, List, [], ◌∷◌, length, take, drop}
-use Rattle.lexis.specs.Text.{Text, if◌then◌else◌, same}
+use Rattle.std.specs.Prelude.{if◌then◌else◌, ℕ, zero, suc, List, [], ◌∷◌, length, take, drop}
+use Rattle.lexis.specs.Text.{Text, same}
 
 -- the first place of s among es, or how many they are
 abbrev pub which : Text → List Text → ℕ

@@ -1,4 +1,5 @@
 -- Where rows lie: what the cut at a place says of the rows of the rest of the sheet from there on.
+use Rattle.std.specs.Prelude.{if◌then◌else◌}
 use Prim.Native.Nat.{ℕ, ◌+◌, ◌-◌, ◌≤◌, ◌<◌}
 use native.Mathlib.Nat.{add_assoc, sub-eq-zero_of_le, add-sub_cancel_left}
 use native.Mathlib.Numerals.{add-one}
@@ -10,7 +11,7 @@ use borrow.Author.Tests.{leb-true, ltb-true, ltb-false, le-leb, lt-ltb, le-ltb}
 use lib.Dec.{eqb, leb, ltb}
 use lib.ListN.{length, take, drop, length-drop, drop_of_length-le}
 use lib.Seq.{take_all, take-nil, drop-drop}
-use Rattle.lexis.specs.Text.{Text, if◌then◌else◌, onto_first, until}
+use Rattle.lexis.specs.Text.{Text, onto_first, until}
 use Rattle.lexis.proofs.Lists.{rest}
 use Rattle.lexis.proofs.Seeking.{until_within, until_take}
 use Rattle.sheet.specs.declared.Cut.{Cut}

@@ -1,5 +1,6 @@
 -- The definition's rows, and that a walk by cuts yields exactly them, in order, and then ends.
 -- Joined again, the rows are the sheet; and each is accepted or refused with 1, 2, 3 or 4.
+use Rattle.std.specs.Prelude.{if◌then◌else◌}
 use Prim.Native.Nat.{ℕ, zero, suc, ◌+◌, ◌<◌}
 use native.Mathlib.Omega.{arith}
 use mathlib.Core.Bool.{Bool, true, false}
@@ -8,7 +9,7 @@ use mathlib.Core.Path.{◌≡◌, refl, sym, ap, ◌∙◌}
 use borrow.Author.Tests.{eqb-true, lt-leb}
 use lib.Dec.{eqb, leb}
 use lib.ListN.{length, drop, drop_of_length-le}
-use Rattle.lexis.specs.Text.{Text, if◌then◌else◌, onto_first, until}
+use Rattle.lexis.specs.Text.{Text, onto_first, until}
 use Rattle.meaning.specs.Ordinary.{refused, accepted, ordinary}
 use Rattle.meaning.proofs.Everywhere.{read, ordinary_all}
 use Rattle.meaning.specs.declared.Reading.{Reading}

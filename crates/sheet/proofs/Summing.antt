@@ -1,4 +1,5 @@
 -- Sums row by row: what a loop over the rows holds, and that nothing passes 64 bits, for no row adds much and there are few rows.
+use Rattle.std.specs.Prelude.{if◌then◌else◌}
 use Prim.Native.Nat.{ℕ, suc, ◌+◌, ◌-◌, ◌*◌, ◌≤◌, ◌<◌, ◌^◌}
 use native.Mathlib.Nat.{add-zero, zero-add, add_assoc}
 use native.Mathlib.Omega.{arith}
@@ -8,7 +9,7 @@ use mathlib.Core.Path.{◌≡◌, refl, sym, ap, subst, ◌∙◌}
 use borrow.Author.Tests.{leb-true}
 use lib.Dec.{eqb, leb}
 use lib.ListN.{length}
-use Rattle.lexis.specs.Text.{Text, if◌then◌else◌, onto_first}
+use Rattle.lexis.specs.Text.{Text, onto_first}
 use Rattle.meaning.specs.Ordinary.{ordinary}
 use Rattle.meaning.specs.Refusals as R
 use Rattle.meaning.specs.declared.Reading.{Reading}

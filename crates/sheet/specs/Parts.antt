@@ -1,6 +1,5 @@
 -- What the totals are made of, row by row.
-use Rattle.std.specs.Prelude.{ℕ, ◌+◌, ◌<◌, eqb}
-use Rattle.lexis.specs.Text.{if◌then◌else◌}
+use Rattle.std.specs.Prelude.{if◌then◌else◌, ℕ, ◌+◌, ◌<◌, eqb}
 use Rattle.meaning.specs.Refusals as R
 use Rattle.meaning.specs.declared.Reading.{Reading}
 use Rattle.sheet.specs.declared.Counted.{Counted}

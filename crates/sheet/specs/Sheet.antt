@@ -1,7 +1,7 @@
 -- A sheet of texts (02, C-11): its rows, where each lies, and the totals over them.
 -- `limit` is that of a sheet, `size` that of a text, `cap` that of a list.
-use Rattle.std.specs.Prelude.{ℕ, ◌+◌, ◌-◌, true, false, ◌&&◌, List, [], ◌∷◌, eqb, leb, ltb, length, take, drop}
-use Rattle.lexis.specs.Text.{Text, if◌then◌else◌, onto_first, until}
+use Rattle.std.specs.Prelude.{if◌then◌else◌, ℕ, ◌+◌, ◌-◌, true, false, ◌&&◌, List, [], ◌∷◌, eqb, leb, ltb, length, take, drop}
+use Rattle.lexis.specs.Text.{Text, onto_first, until}
 use Rattle.meaning.specs.Ordinary.{ordinary}
 use Rattle.meaning.specs.Refusals as R
 use Rattle.meaning.specs.declared.Reading.{Reading}

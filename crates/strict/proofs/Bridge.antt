@@ -13,6 +13,7 @@ use Rattle.grammar.specs.Join.{mapped, after}
 use Rattle.grammar.specs.Table.{pick, sound_table}
 use Rattle.grammar.specs.Spelt.{listed, two, quiet}
 use Rattle.grammar.specs.Elements as G
+use Rattle.grammar.proofs.Elements as GP
 use Rattle.grammar.specs.Elements.{ends}
 use Rattle.strict.specs.Words.{choose}
 use Rattle.strict.specs.Inner as I
@@ -20,8 +21,8 @@ use lib.IntN.{ℤ}
 use lib.ListN.{length}
 use Rattle.grammar.specs.Until.{Ended}
 use Rattle.grammar.specs.Until as U
-use Rattle.grammar.specs.Several as S
-use Rattle.grammar.specs.Body as B
+use Rattle.grammar.proofs.Several as S
+use Rattle.grammar.proofs.Body as B
 use Rattle.strict.specs.Rows.{dims64, list64}
 use Rattle.strict.specs.Lists.{Row, nothing, pushed, pushes}
 use Rattle.strict.specs.Plain.{scalar}
@@ -46,21 +47,21 @@ marked k = eqb k 1
 abbrev pub core_said : I.Cored → G.Core
 core_said c = record { pointer = c.pointer; element = scalar c.word; attribute = c.marked }
 
-name_is : (t : List ℕ) → (G.names).read t ≡ mapped scalar (choose I.names t)
+name_is : (t : List ℕ) → (GP.names).read t ≡ mapped scalar (choose I.names t)
 name_is t = choose_label scalar I.names t
 
 -- a pointer's content, by the table of what closes it: alone, or with the end of the tile around it
 module _ (w table : List ℕ) (h : T (sound_table quiet (bytes ">,") (listed (G.ends w) (λ (m : Bool). m) two)))
     (close-is : (t : List ℕ) → pick t (listed (G.ends w) (λ (m : Bool). m) two) ≡ mapped marked (choose table t)) where
-  pointee_by : (t : List ℕ) → (G.pointee w h).read t ≡ mapped core_said (I.pointee table t)
+  pointee_by : (t : List ℕ) → (GP.pointee w h).read t ≡ mapped core_said (I.pointee table t)
   pointee_by t = ap (after (λ (s : Scalar) r. mapped (G.closed s) (pick r (listed (G.ends w) (λ (m : Bool). m) two)))) (name_is t)
       ∙ join scalar (λ (s : Scalar) r. mapped (G.closed s) (pick r (listed (G.ends w) (λ (m : Bool). m) two))) (I.closing table) core_said
       (λ k r. ap (mapped (G.closed (scalar k))) (close-is r) ∙ twice marked (G.closed (scalar k)) (choose table r) ∙ sym (twice (I.closed k) core_said (choose table r))) (choose I.names t)
 
-pub pointee_is : (t : List ℕ) → (G.pointee (bytes ">") tt).read t ≡ mapped core_said (I.pointee I.close t)
+pub pointee_is : (t : List ℕ) → (GP.pointee (bytes ">") tt).read t ≡ mapped core_said (I.pointee I.close t)
 pointee_is = pointee_by (bytes ">") I.close tt (λ t. choose_label marked I.close t)
 
-pointee_both_is : (t : List ℕ) → (G.pointee (bytes ">>") tt).read t ≡ mapped core_said (I.pointee I.close_both t)
+pointee_both_is : (t : List ℕ) → (GP.pointee (bytes ">>") tt).read t ≡ mapped core_said (I.pointee I.close_both t)
 pointee_both_is = pointee_by (bytes ">>") I.close_both tt (λ t. choose_label marked I.close_both t)
 
 -- ── a tile's element ──
@@ -71,15 +72,15 @@ kern_of false s = G.point
 abbrev pub kern_said : ℕ → G.Kern
 kern_said k = kern_of (ltb k 22) (scalar k)
 
-kern_is : (t : List ℕ) → (G.kern).read t ≡ mapped kern_said (choose I.kerns t)
+kern_is : (t : List ℕ) → (GP.kern).read t ≡ mapped kern_said (choose I.kerns t)
 kern_is t = choose_label kern_said I.kerns t
 
-core_is : (t : List ℕ) → (G.core).read t ≡ mapped core_said (I.core t)
+core_is : (t : List ℕ) → (GP.core).read t ≡ mapped core_said (I.core t)
 unfolding I.core
-core_is t = ap (after (λ (k : G.Kern). (G.kern_tail k).read)) (kern_is t) ∙ join kern_said (λ (k : G.Kern). (G.kern_tail k).read) I.core_of core_said (λ k r. by k r (ltb k 22)) (choose I.kerns t)
+core_is t = ap (after (λ (k : G.Kern). (GP.kern_tail k).read)) (kern_is t) ∙ join kern_said (λ (k : G.Kern). (GP.kern_tail k).read) I.core_of core_said (λ k r. by k r (ltb k 22)) (choose I.kerns t)
   where
     by : (k : ℕ) (r : List ℕ) (b : Bool) →
-        (G.kern_tail (kern_of b (scalar k))).read r ≡ mapped core_said (cond b (mapped (λ (m : ℕ). I.plain k) (choose (bytes ">|") r)) (I.pointee I.close_both r))
+        (GP.kern_tail (kern_of b (scalar k))).read r ≡ mapped core_said (cond b (mapped (λ (m : ℕ). I.plain k) (choose (bytes ">|") r)) (I.pointee I.close_both r))
     by k r true = choose_label (λ (m : ℕ). G.flat_core (scalar k)) (bytes ">|") r ∙ sym (twice (λ (m : ℕ). I.plain k) core_said (choose (bytes ">|") r))
     by k r false = pointee_both_is r
 
@@ -88,10 +89,10 @@ pub record Tile~ (e : Ended ℤ G.Core) (c : I.Tiled) : Type 0 where
   pub shape : pushes nothing e.items ≡ c.shape
   pub core : e.last ≡ core_said c.core
 
-pub tile_is : (t : List ℕ) → Same Tile~ ((G.tile_inside).read t) (I.tile t)
+pub tile_is : (t : List ℕ) → Same Tile~ ((GP.tile_inside).read t) (I.tile t)
 unfolding I.tile dims64
-tile_is t = subst (λ (p : Answer (Ended ℤ G.Core)). Same Tile~ p (I.tile t)) (sym (parts S.dimx G.core tt (λ a. S.nothing (bytes "ibftp!")) refl t))
-    (ended (G.core).read I.core (λ x. label core_said ((G.core).read x) (I.core x) (core_is x)) I.tile_of (λ zs b k h. record { shape = refl; core = h }) (dims64 t))
+tile_is t = subst (λ (p : Answer (Ended ℤ G.Core)). Same Tile~ p (I.tile t)) (sym (parts S.dimx GP.core tt (λ a. S.nothing (bytes "ibftp!")) refl t))
+    (ended (GP.core).read I.core (λ x. label core_said ((GP.core).read x) (I.core x) (core_is x)) I.tile_of (λ zs b k h. record { shape = refl; core = h }) (dims64 t))
 
 -- ── a tensor view: the strides' list and its end, what follows the name, the whole ──
 pub record Rest~ (e : Ended ℤ Bool) (c : I.Rested) : Type 0 where
@@ -138,8 +139,8 @@ pub record Tens~ (e : B.Tens) (c : I.Tensed) : Type 0 where
 
 pub tensor_is : (t : List ℕ) → Same Tens~ ((B.tensor_inside).read t) (I.tensor t)
 unfolding I.tensor dims64
-tensor_is t = subst (λ (p : Answer (Ended ℤ Scalar)). Same Tens~ (after rest p) (I.tensor t)) (sym (parts S.dimx G.names tt (λ a. S.nothing (bytes "ibft")) refl t))
-    (ended_then (G.names).read (choose I.names) (λ x. label scalar ((G.names).read x) (choose I.names x) (name_is x)) rest (λ l k x. mapped (I.tens_of l k) (I.rest l.len x))
+tensor_is t = subst (λ (p : Answer (Ended ℤ Scalar)). Same Tens~ (after rest p) (I.tensor t)) (sym (parts S.dimx GP.names tt (λ a. S.nothing (bytes "ibft")) refl t))
+    (ended_then (GP.names).read (choose I.names) (λ x. label scalar ((GP.names).read x) (choose I.names x) (name_is x)) rest (λ l k x. mapped (I.tens_of l k) (I.rest l.len x))
     (λ zs b k x h. convey (B.tens (closing zs b)) (I.tens_of (pushes nothing zs) k) (rest_is zs x) (λ e c q. record { shape = refl; element = h; strides = q.strides; mark = q.mark })) (dims64 t))
   where
     rest : Ended ℤ Scalar → List ℕ → Answer B.Tens

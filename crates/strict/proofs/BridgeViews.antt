@@ -17,9 +17,9 @@ use Rattle.grammar.specs.Until.{Ended}
 use Rattle.grammar.specs.Table.{pick, ◌↝◌}
 use Rattle.grammar.specs.Spelt.{listed, two, in_two, quiet}
 use Rattle.grammar.specs.Pair.{chosen}
-use Rattle.grammar.specs.Body as B
-use Rattle.grammar.specs.Sights as G
-use Rattle.grammar.specs.Insides as N
+use Rattle.grammar.proofs.Body as B
+use Rattle.grammar.proofs.Sights as G
+use Rattle.grammar.proofs.Insides as N
 use Rattle.strict.specs.Words.{choose}
 use Rattle.strict.specs.Rows.{list32}
 use Rattle.strict.specs.Lists.{Row, nothing, pushes}

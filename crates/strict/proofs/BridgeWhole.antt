@@ -14,8 +14,9 @@ use Rattle.meaning.specs.Meant.{Any, any}
 use Rattle.grammar.specs.Piece.{got}
 use Rattle.grammar.specs.Join.{mapped}
 use Rattle.grammar.specs.Elements as E
+use Rattle.grammar.proofs.Elements as EP
 use Rattle.grammar.specs.Head as H
-use Rattle.grammar.specs.Whole as G
+use Rattle.grammar.proofs.Whole as G
 use Rattle.strict.specs.Words.{choose}
 use Rattle.strict.specs.Lists.{Row, nothing}
 use Rattle.strict.specs.Inner as I
@@ -42,7 +43,7 @@ head_is t = choose_label head_said C.heads t
 -- ── what follows it ──
 module _ (k : ℕ) (r : List ℕ) where
   pointer : Same Whole~ ((G.next H.ptr).read r) (mapped C.pointer_of (I.pointee I.close r))
-  pointer = convey G.ptr_any C.pointer_of (label core_said ((E.pointee (bytes ">") tt).read r) (I.pointee I.close r) (pointee_is r)) (λ a c h. ap (λ (z : E.Core). seen (G.ptr_any z)) h)
+  pointer = convey G.ptr_any C.pointer_of (label core_said ((EP.pointee (bytes ">") tt).read r) (I.pointee I.close r) (pointee_is r)) (λ a c h. ap (λ (z : E.Core). seen (G.ptr_any z)) h)
 
   tile : Same Whole~ ((G.next H.tile).read r) (mapped C.tile_of (I.tile r))
   tile = convey G.tile_any C.tile_of (tile_is r) (λ e c h. λ j. said_tile (h.core j) (h.shape j))

@@ -10,7 +10,7 @@ use Rattle.grammar.specs.Piece.{Answer, got, stuck, apart, Piece}
 use Rattle.grammar.specs.Join.{mapped, after, fork}
 use Rattle.grammar.specs.Until.{Ended, first, until_read}
 use Rattle.grammar.specs.Number.{ten}
-use Rattle.grammar.specs.Several.{num32, dim64, x32}
+use Rattle.grammar.proofs.Several.{num32, dim64, x32}
 use Rattle.strict.specs.Cursor.{numeral, dimension}
 use Rattle.strict.specs.Rows.{more, commas32, xs32, parts32, commas64, tail32, list32, list64}
 use Rattle.strict.proofs.Rows as R

@@ -12,8 +12,10 @@ use Rattle.grammar.specs.Piece.{Answer, got, stuck, member, Piece}
 use Rattle.grammar.specs.Join.{mapped, after}
 use Rattle.grammar.specs.Table.{pick, ◌↝◌}
 use Rattle.grammar.specs.Number as N
+use Rattle.grammar.proofs.Number as NP
 use Rattle.grammar.specs.Number.{digits_after}
-use Rattle.grammar.specs.Several.{num32, dim64, item, x32, dimx, same, figs?}
+use Rattle.grammar.specs.Several.{same, figs?}
+use Rattle.grammar.proofs.Several.{num32, dim64, item, x32, dimx}
 use Rattle.strict.specs.Cursor as C
 use Rattle.strict.specs.Rows.{more, rows, commas32, xs32, parts32, commas64, dims64, dim_x}
 use Rattle.strict.specs.Words.{choose}
@@ -34,7 +36,7 @@ mapped_minus (stuck r) = refl
 
 -- ── a numeral ──
 module _ (p q : ℕ) (wide : T (lib.Dec.ltb 9 p)) (wide' : T (lib.Dec.ltb 9 (suc q))) where
-  number_is : (t : List ℕ) → (N.number p q wide wide').read t ≡ C.numeral p (suc q) t
+  number_is : (t : List ℕ) → (NP.number p q wide wide').read t ≡ C.numeral p (suc q) t
   number_is [] = refl
   number_is (c ∷ t) = by (eqb c 45) (eqb→eq c 45)
     where
@@ -66,7 +68,7 @@ dim_is (c ∷ t) = by (eqb c 63) (eqb→eq c 63)
     free : List ℕ → Answer ℤ
     free x = pick x ((bytes "?" ↝ negsuc (2 ^ 63 - 1)) ∷ [])
 
-    by : (k : Bool) → (T k → c ≡ 63) → cond (k || false) (free (c ∷ t)) ((N.number (2 ^ 63) (2 ^ 63 - 1) tt tt).read (c ∷ t)) ≡ cond k (got (negsuc (2 ^ 63 - 1)) t) (C.numeral (2 ^ 63) (2 ^ 63) (c ∷ t))
+    by : (k : Bool) → (T k → c ≡ 63) → cond (k || false) (free (c ∷ t)) ((NP.number (2 ^ 63) (2 ^ 63 - 1) tt tt).read (c ∷ t)) ≡ cond k (got (negsuc (2 ^ 63 - 1)) t) (C.numeral (2 ^ 63) (2 ^ 63) (c ∷ t))
     by true f = ap (λ (z : ℕ). free (z ∷ t)) (f tt) ∙ pick_done (negsuc (2 ^ 63 - 1)) t
     by false f = number_is (2 ^ 63) (2 ^ 63 - 1) tt tt (c ∷ t)
 

@@ -1,4 +1,5 @@
 -- Laws of the answer: lists as rows, the record and the judgement of what was read, and the refusals in their order.
+use Rattle.std.specs.Prelude.{if◌then◌else◌}
 use Prim.Native.Nat.{ℕ, zero, suc, ◌+◌, ◌-◌, ◌≤◌, ◌<◌}
 use native.Mathlib.Omega.{arith}
 use mathlib.Core.Bool.{Bool, true, false, cond, ◌&&◌}
@@ -9,7 +10,7 @@ use borrow.Author.Tests.{le-leb, lt-leb, leb-true}
 use lib.Dec.{leb}
 use lib.IntN.{ℤ}
 use lib.ListN.{length, drop, get_or, length-append, drop_of_length-le}
-use Rattle.lexis.specs.Text.{Text, if◌then◌else◌}
+use Rattle.lexis.specs.Text.{Text}
 use Rattle.scalars.specs.declared.scalar.Scalar.{Scalar}
 use Rattle.meaning.proofs.Slots.{slot}
 use Rattle.meaning.specs.declared.Padding.{Padding}
@@ -22,7 +23,7 @@ use Rattle.meaning.specs.Meant.{Any, fits, flat_any, taken, Strictly}
 use Rattle.meaning.specs.Strict.{nth}
 use Rattle.grammar.specs.Piece.{Answer, got, stuck}
 use Rattle.grammar.specs.Join.{mapped}
-use Rattle.grammar.specs.Whole as G
+use Rattle.grammar.proofs.Whole as G
 use Rattle.grammar.proofs.Answer.{judge, answer, answer_ascii, answer_right}
 use Rattle.grammar.proofs.Printed.{strict_low}
 use Rattle.strict.specs.Cursor.{valued}

@@ -14,7 +14,8 @@ use Rattle.grammar.specs.Tests.{and_left, and_right, and_in, is_true, TNotEq}
 use Rattle.numerals.specs.Numeral.{digit}
 use Rattle.grammar.specs.Piece.{Answer, got, stuck, member}
 use Rattle.grammar.specs.Number as N
-use Rattle.grammar.specs.Number.{in_nine, nine_in}
+use Rattle.grammar.proofs.Number as NP
+use Rattle.grammar.proofs.Number.{in_nine, nine_in}
 use Rattle.grammar.specs.Several.{figs?}
 use Rattle.strict.specs.Cursor as C
 use Rattle.grammar.specs.Join.{mapped}
@@ -146,8 +147,8 @@ between b = ltb 47 b && ltb b 58
 
 ten_is : (b : ℕ) → between b ≡ member b N.ten
 ten_is b = iff (between b) (member b N.ten)
-    (λ t. let p = ltb→lt 47 b (and_left (ltb 47 b) (ltb b 58) t) in let q = ltb→lt b 58 (and_right (ltb 47 b) (ltb b 58) t) in N.in_ten b (and_in (leb 48 b) (leb b 57) (le→leb 48 b (omega arith)) (le→leb b 57 (omega arith))))
-    (λ m. N.member_every between N.ten b tt m)
+    (λ t. let p = ltb→lt 47 b (and_left (ltb 47 b) (ltb b 58) t) in let q = ltb→lt b 58 (and_right (ltb 47 b) (ltb b 58) t) in NP.in_ten b (and_in (leb 48 b) (leb b 57) (le→leb 48 b (omega arith)) (le→leb b 57 (omega arith))))
+    (λ m. NP.member_every between N.ten b tt m)
 
 pub figure_is : (b : ℕ) → (eqb b 63 || eqb b 45) || between b ≡ member b figs?
 figure_is b = ap (λ (k : Bool). (eqb b 63 || eqb b 45) || k) (ten_is b) ∙ apart (eqb b 63) (eqb b 45) (member b N.ten)

@@ -1,6 +1,5 @@
 -- What the grammar and the code both say of a text: a type with its lists as rows. From it, the record and the answer.
-use Rattle.std.specs.Prelude.{ℕ, Bool, cond, ◌&&◌, [], ◌∷◌, leb, ℤ}
-use Rattle.lexis.specs.Text.{if◌then◌else◌}
+use Rattle.std.specs.Prelude.{if◌then◌else◌, ℕ, Bool, cond, ◌&&◌, [], ◌∷◌, leb, ℤ}
 use Rattle.scalars.specs.declared.scalar.Scalar.{Scalar}
 use Rattle.scalars.specs.declared.scalar.Scalar.TheVariants.{I1}
 use Rattle.meaning.specs.declared.Kind.{Kind}

@@ -6,7 +6,8 @@ use Rattle.meaning.specs.Decimal.{decimal, in32, in64, dim, size}
 use Rattle.lexis.specs.Text.{bytes}
 use Rattle.strict.specs.Cursor.{numeral, dimension}
 use Rattle.strict.specs.Words.{choose}
-use Rattle.grammar.specs.Several.{num32, dim64, item, x32, dimx, same}
+use Rattle.grammar.specs.Several.{same}
+use Rattle.grammar.proofs.Several.{num32, dim64, item, x32, dimx}
 
 abbrev pub more : ℤ → List ℤ → List ℤ
 more z zs = z ∷ zs

@@ -4,6 +4,8 @@
 mod say;
 mod words;
 
+ghost use Rattle.std.specs.Prelude.{◌≤◌, IfOk, length};
+
 use say::{line, say, say_number};
 use sheet::Totals;
 use std::io::{self, Input, Print, Read};
@@ -41,7 +43,9 @@ fn report<R: Print>(rt: &R, t: Totals) -> io::Result<()> {
 }
 
 // Reads until the room is full or the input ends.
-fn fill<R: Read>(from: &mut R, room: &mut [u8]) -> io::Result<usize> {
+fn fill<R: Read>(from: &mut R, room: &mut [u8]) -> io::Result<usize>
+    ensures { IfOk result (λ n. n ≤ length room.new) }
+{
     let mut n = 0;
     while n < room.len() {
         let k = from.read(&mut room[n..])?;

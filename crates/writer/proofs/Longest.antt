@@ -1,5 +1,6 @@
 -- A written text of a normal record at capacity cap has at most 78 * cap + 149 bytes, by the bounds of its parts; at 8 and at
 -- 16 a record attains it, which the checker computes.
+use Rattle.std.specs.Prelude.{if◌then◌else◌}
 use Prim.Native.Nat.{ℕ, ◌+◌, ◌*◌, ◌≤◌}
 use mathlib.Core.Bool.{Bool, true, false}
 use mathlib.Core.List.{[], ◌∷◌, map}
@@ -8,7 +9,7 @@ use mathlib.Core.Path.{◌≡◌, refl, sym, subst}
 use lib.Dec.{lit≤}
 use lib.IntN.{pos, negsuc}
 use lib.ListN.{length, replicate}
-use Rattle.lexis.specs.Text.{Text, if◌then◌else◌}
+use Rattle.lexis.specs.Text.{Text}
 use Rattle.scalars.specs.declared.scalar.Scalar.TheVariants.{F8E8M0FNU}
 use Rattle.meaning.specs.declared.Kind.TheVariants as K
 use Rattle.meaning.specs.declared.Padding.TheVariants.{NegZero}

@@ -1,5 +1,6 @@
 -- The record of an ordinary reading has a text, unless its attribute stands on a scalar, a tile of scalars or a token: what a
 -- form finds has no empty list where the text of its kind needs an entry.
+use Rattle.std.specs.Prelude.{if◌then◌else◌}
 use Prim.Native.Nat.{ℕ, zero, suc, ◌≤◌, ◌<◌}
 use Prim.Native.Char.{code}
 use native.Mathlib.Nat.{zero-lt-suc}
@@ -12,7 +13,7 @@ use mathlib.Core.Path.{◌≡◌, refl, ap, ◌∙◌}
 use lib.Dec.{T, eqb, eqb-suc-zero}
 use lib.IntN.{ℤ, pos}
 use lib.ListN.{length, replicate}
-use Rattle.lexis.specs.Text.{Text, bytes, if◌then◌else◌, trim, split, onto_first, less_leading, less_trailing, Cut, nowhere, at, cut}
+use Rattle.lexis.specs.Text.{Text, bytes, trim, split, onto_first, less_leading, less_trailing, Cut, nowhere, at, cut}
 use Rattle.scalars.specs.Names.{scalar_name}
 use Rattle.scalars.specs.declared.scalar.Scalar.{Scalar}
 use Rattle.meaning.specs.declared.Kind.{Kind}

@@ -1,4 +1,5 @@
 -- The text laid down part by part is the spelling of the form, and there is a form exactly where the lengths say so: by cases on the lists.
+use Rattle.std.specs.Prelude.{if◌then◌else◌}
 use Prim.Native.Nat.{ℕ, zero, suc, ◌<◌}
 use native.Mathlib.Omega.{arith}
 use mathlib.Core.Bool.{Bool, true, false, ◌&&◌, ◌||◌, not}
@@ -8,7 +9,7 @@ use mathlib.Core.Path.{◌≡◌, refl, sym, ap, ◌∙◌}
 use lib.Dec.{eqb, eqb-suc-zero}
 use lib.IntN.{ℤ}
 use lib.ListN.{length, take}
-use Rattle.lexis.specs.Text.{Text, bytes, if◌then◌else◌}
+use Rattle.lexis.specs.Text.{Text, bytes}
 use Rattle.scalars.specs.declared.scalar.Scalar.{Scalar}
 use Rattle.meaning.specs.declared.Kind.{Kind}
 use Rattle.meaning.specs.declared.Kind.TheVariants as K

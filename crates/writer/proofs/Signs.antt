@@ -1,4 +1,5 @@
 -- Signed numbers as the machine has them, and their decimals: the sign, the magnitude, and the smallest i64 as `?`.
+use Rattle.std.specs.Prelude.{if◌then◌else◌}
 use Prim.Native.Nat.{ℕ, suc, ◌-◌, ◌^◌, ◌<◌}
 use native.Mathlib.Omega.{arith}
 use mathlib.Core.Path.{◌≡◌, refl, sym, ap, ◌∙◌}
@@ -11,7 +12,6 @@ use lib.Signed.{lt_z}
 use mir.Syntax.{w64}
 use mir.Val.{SFits, to_z, of_z}
 use mir.ValLaws.{to_z-of_z}
-use Rattle.lexis.specs.Text.{if◌then◌else◌}
 use Rattle.meaning.specs.Decimal.{digits, decimal, dim, dynamic, known}
 use Rattle.meaning.specs.Written.{unknown}
 use Rattle.writer.specs.Flat.{entry}

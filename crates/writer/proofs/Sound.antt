@@ -1,4 +1,5 @@
 -- Where a record has a form, the form is well formed, by the ranges of its numbers. So what is written is strict (`Back`).
+use Rattle.std.specs.Prelude.{if◌then◌else◌}
 use Prim.Native.Nat.{ℕ, zero, suc, ◌-◌, ◌^◌, ◌<◌}
 use native.Mathlib.Omega.{arith}
 use mathlib.Core.Bool.{Bool, true, false, ◌&&◌}
@@ -10,7 +11,6 @@ use lib.Dec.{T, lt→ltb, eqb}
 use lib.IntN.{ℤ, pos, negsuc}
 use lib.ListN.{take}
 use lib.Signed.{mag}
-use Rattle.lexis.specs.Text.{if◌then◌else◌}
 use Rattle.scalars.specs.declared.scalar.Scalar.{Scalar}
 use Rattle.meaning.specs.declared.Padding.{Padding}
 use Rattle.meaning.specs.declared.Kind.{Kind}

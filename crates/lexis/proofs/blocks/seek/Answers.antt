@@ -26,7 +26,7 @@ pub loop-i-2-preserved : goal.loop-i-2-preserved
 loop-i-2-preserved c =
     let l = c.loop-i-2 in
     let a = c.args in
-    l.invariant ∙ S.until_step (eqb a.b) a.text.now l.i (search rules) (ne_eqb _ _ c.if-b-text.false)
+    l.invariant ∙ S.until_step (eqb a.b) a.text.now l.i (search rules) (ne_eqb _ _ (search rules))
 
 pub returns-after-loop-i-2 : goal.returns-after-loop-i-2
 returns-after-loop-i-2 c =

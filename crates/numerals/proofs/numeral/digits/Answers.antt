@@ -18,13 +18,13 @@ pub returns-then-b-gt57 : goal.returns-then-b-gt57
 returns-then-b-gt57 c = let l = c.loop-i in sym (l.invariant.2 ∙ L.high _ _ l.i l.n c.loop-i-test.true c.if-b-lt48.false c.if-b-gt57.true)
 
 pub returns-then-most-n : goal.returns-then-most-n
-returns-then-most-n c = let l = c.loop-i in sym (l.invariant.2 ∙ L.over _ _ l.i l.n c.loop-i-test.true c.if-b-lt48.false c.if-b-gt57.false (search rules))
+returns-then-most-n c = let l = c.loop-i in sym (l.invariant.2 ∙ L.over _ _ l.i l.n c.loop-i-test.true c.if-b-lt48.false (search rules) (search rules))
 
 pub returns-then-most-m : goal.returns-then-most-m
-returns-then-most-m c = let l = c.loop-i in sym (l.invariant.2 ∙ L.over _ _ l.i l.n c.loop-i-test.true c.if-b-lt48.false c.if-b-gt57.false (search rules))
+returns-then-most-m c = let l = c.loop-i in sym (l.invariant.2 ∙ L.over _ _ l.i l.n c.loop-i-test.true c.if-b-lt48.false (search rules) (search rules))
 
 pub loop-i-preserved : goal.loop-i-preserved
-loop-i-preserved c = let l = c.loop-i in (search rules, search rules, l.invariant.2 ∙ L.step _ _ l.i l.n c.loop-i-test.true c.if-b-lt48.false c.if-b-gt57.false)
+loop-i-preserved c = let l = c.loop-i in (search rules, search rules, l.invariant.2 ∙ L.step _ _ l.i l.n c.loop-i-test.true c.if-b-lt48.false (search rules))
 
 pub returns : goal.returns
 returns c = let l = c.loop-i in sym (l.invariant.2 ∙ L.last _ _ l.i l.n c.loop-i-test.false l.invariant.1)

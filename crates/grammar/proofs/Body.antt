@@ -10,13 +10,15 @@ use Rattle.meaning.specs.Strict.{◌⊕◌, Commas, comma, commas, values, dims,
 use Rattle.meaning.specs.Meant.{each_of, tensor_ok, strides_of}
 use Rattle.grammar.specs.Tests.{and_left, and_right, and_in}
 use Rattle.grammar.specs.Piece.{apart, Piece}
-use Rattle.grammar.specs.Join.{map, bind, yield, restate}
+use Rattle.grammar.specs.Join.{bind, yield, restate}
 use Rattle.grammar.specs.Until.{Ended, ended}
 use Rattle.grammar.specs.Table.{table, Among}
 use Rattle.grammar.specs.Spelt.{Spelt, always, listed, listed_to, listed_from, two, in_two, quiet, among_left, among_right, among_split}
-use Rattle.grammar.specs.Several.{figs?, dim64, Both, dims_then, list_then}
+use Rattle.grammar.specs.Several.{figs?, Both}
+use Rattle.grammar.proofs.Several.{dim64, dims_then, list_then}
 use Rattle.grammar.specs.Pair.{pair, turned, respelt, chosen}
-use Rattle.grammar.specs.Elements.{names, six, ends}
+use Rattle.grammar.specs.Elements.{six, ends}
+use Rattle.grammar.proofs.Elements.{names}
 
 abbrev pub id : {A : Type 0} → A → A
 id a = a

@@ -12,9 +12,10 @@ use Rattle.grammar.specs.Join.{restate}
 use Rattle.grammar.specs.Until.{Ended}
 use Rattle.grammar.specs.Table.{table, Among, sound_table}
 use Rattle.grammar.specs.Spelt.{Spelt, always, listed, Mem, quiet, zipped, zipped_to, zipped_from}
-use Rattle.grammar.specs.Several.{figs?, Both, nothing}
+use Rattle.grammar.specs.Several.{figs?, Both}
+use Rattle.grammar.proofs.Several.{nothing}
 use Rattle.grammar.specs.Pair.{pair, turned, respelt, chosen}
-use Rattle.grammar.specs.Body.{Tens, tensor_inside, body_ok, body_text, body_mean}
+use Rattle.grammar.proofs.Body.{Tens, tensor_inside, body_ok, body_text, body_mean}
 
 -- ── how the tensor view comes: after a padding, or at once ──
 pub data Mid : Type 0 where

@@ -9,13 +9,13 @@ use Rattle.meaning.specs.Decimal.{decimal, in32}
 use Rattle.meaning.specs.Strict.{◌⊕◌, Commas, comma, commas, values, Entries, entries, entries_of, pad_text, intro_text, body}
 use Rattle.meaning.specs.Meant.{each_of, Any, meant_pads}
 use Rattle.grammar.specs.Piece.{Piece}
-use Rattle.grammar.specs.Join.{map}
 use Rattle.grammar.specs.Until.{Ended}
 use Rattle.grammar.specs.Spelt.{always, two, in_two, quiet, ending}
-use Rattle.grammar.specs.Several.{figs, num32, Both, list_then, entries_then, same}
+use Rattle.grammar.specs.Several.{figs, Both, same}
+use Rattle.grammar.proofs.Several.{num32, list_then, entries_then}
 use Rattle.grammar.specs.Pair.{pair, turned, chosen}
-use Rattle.grammar.specs.Body.{id, body_ok, body_mean}
-use Rattle.grammar.specs.Sights.{Mid, mid_text, mid_mean, mid, Scene, SceneS, scenery, Sight}
+use Rattle.grammar.proofs.Body.{id, body_ok, body_mean}
+use Rattle.grammar.proofs.Sights.{Mid, mid_text, mid_mean, mid, Scene, SceneS, scenery, Sight}
 
 -- ── the ends of the views ──
 abbrev pub one : (w : List ℕ) → Unit {0} → List ℕ

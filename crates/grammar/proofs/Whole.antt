@@ -4,7 +4,6 @@ use Rattle.std.specs.Prelude.{ℕ, Bool, true, false, ◌&&◌, List, [], ◌∷
 use Rattle.std.proofs.Common.{append_assoc, append-nil, subst, sym, ap, ◌∙◌}
 use mathlib.Core.List as L
 use Rattle.lexis.specs.Text.{bytes}
-use Rattle.scalars.specs.declared.scalar.Scalar.{Scalar}
 use Rattle.scalars.specs.declared.scalar.Scalar.TheVariants.{I1}
 use Rattle.meaning.specs.declared.Kind.TheVariants as K
 use Rattle.meaning.specs.declared.Padding.TheVariants as P
@@ -16,12 +15,14 @@ use Rattle.grammar.specs.Piece.{Answer, got, apart, within, Piece, sound, whole}
 use Rattle.grammar.specs.Join.{map, bind, yield, restate}
 use Rattle.grammar.specs.Until.{Ended}
 use Rattle.grammar.specs.Spelt.{Spelt, always}
-use Rattle.grammar.specs.Several.{figs, figs?, Both, map_same}
-use Rattle.grammar.specs.Elements.{six, Core, pointee, pointee_text, pointee_mean, tile_inside, core_mean}
-use Rattle.grammar.specs.Body.{id, Tens, tensor_inside, body_ok, body_text, body_mean}
-use Rattle.grammar.specs.Sights.{couple, SceneS}
-use Rattle.grammar.specs.Insides.{mp_text, sp_text, tile_ok, tile_text, tile_scene_ok, tile_scene_mean, walk_ok, walk_text}
-use Rattle.grammar.specs.Insides.{walk_scene_ok, walk_scene_mean, sighted, partition_inside, gather_inside, tt_ok, tt_text, wr_ok, strided_inside}
+use Rattle.grammar.specs.Several.{figs, figs?, Both}
+use Rattle.grammar.proofs.Several.{map_same}
+use Rattle.grammar.specs.Elements.{six, Core, core_mean}
+use Rattle.grammar.proofs.Elements.{pointee, pointee_text, pointee_mean, tile_inside}
+use Rattle.grammar.proofs.Body.{id, Tens, tensor_inside, body_ok, body_text, body_mean}
+use Rattle.grammar.proofs.Sights.{couple, SceneS}
+use Rattle.grammar.proofs.Insides.{mp_text, sp_text, tile_ok, tile_text, tile_scene_ok, tile_scene_mean, walk_ok, walk_text}
+use Rattle.grammar.proofs.Insides.{walk_scene_ok, walk_scene_mean, sighted, partition_inside, gather_inside, tt_ok, tt_text, wr_ok, strided_inside}
 use Rattle.grammar.specs.Head.{Head, HeadS, head_text, head_mean, head_e, head_f, head_plain, head_to, head_from, scalar, token, ptr, tile, tensor, partition, gather, strided}
 
 -- ── what follows it ──
