@@ -1,5 +1,5 @@
 // A reading as the list writes it: `1`, `2 @PLACE`, or `0 KIND ELEMENT pointer=0 .. counts=0,0,0,0`.
-ghost use Rattle.std.specs.Prelude.{◌≡◌, nat_abs};
+ghost use Rattle.std.specs.Prelude.{◌≡◌, ◌≤◌, decimal, drop, nat_abs};
 
 use meaning::{CAP, Kind, Note, Padding, Reading, Record};
 use scalars::Scalar;
@@ -14,19 +14,34 @@ pub fn put_byte(out: &mut [u8], at: usize, b: u8) -> usize {
 }
 
 fn put(out: &mut [u8], at: usize, s: &[u8]) -> usize {
-    let mut i = 0;
     let mut n = at;
-    while i < s.len() {
-        n = put_byte(out, n, s[i]);
-        i += 1;
+    for b in s {
+        n = put_byte(out, n, *b);
     }
     n
 }
 
+// Writes a number's digits at the end of the room, and returns where they begin; a u64 has at most 20.
+fn digits(n: u64, room: &mut [u8; 20]) -> usize
+    ensures start { result ≤ 20 }
+    ensures written { drop result room.new ≡ decimal n }
+{
+    let mut left = n;
+    let mut at = 20;
+    while 10 <= left {
+        at -= 1;
+        room[at] = b'0' + (left % 10) as u8;
+        left /= 10;
+    }
+    at -= 1;
+    room[at] = b'0' + left as u8;
+    at
+}
+
 fn put_number(out: &mut [u8], at: usize, n: u64) -> usize {
-    let mut digits = [0u8; 20];
-    let k = io::decimal(n, &mut digits);
-    put(out, at, &digits[..k])
+    let mut room = [0u8; 20];
+    let k = digits(n, &mut room);
+    put(out, at, &room[k..])
 }
 
 // How far a number is from 0; there is no special case for the smallest.
@@ -81,20 +96,16 @@ fn put_entry(out: &mut [u8], at: usize, i: usize, len: usize, z: i64) -> usize {
 // The first `len` entries in brackets, after a name.
 fn put_list(out: &mut [u8], at: usize, name: &[u8], values: [i64; CAP], len: usize) -> usize {
     let mut n = put(out, at, name);
-    let mut i = 0;
-    while i < CAP {
+    for i in 0..CAP {
         n = put_entry(out, n, i, len, values[i]);
-        i += 1;
     }
     put(out, n, b"] ")
 }
 
 fn widened(values: [i32; CAP]) -> [i64; CAP] {
     let mut all = [0i64; CAP];
-    let mut i = 0;
-    while i < CAP {
+    for i in 0..CAP {
         all[i] = wide(values[i]);
-        i += 1;
     }
     all
 }

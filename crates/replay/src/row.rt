@@ -3,6 +3,7 @@ ghost use Rattle.std.specs.Prelude.{◌≤◌};
 
 use super::back::{Back, write_back};
 use super::render::{put_byte, render};
+use std::io::{self, Print, Write};
 
 // The value of a hexadecimal digit; 16 where it is none.
 fn nibble(b: u8) -> u8 {
@@ -78,12 +79,13 @@ fn behind(row: &[u8], k: usize) -> &[u8] {
     }
 }
 
-fn show(what: &[u8], row: &[u8], answer: &[u8]) {
-    io::write_all(1, what);
-    io::write_all(1, row);
-    io::write_all(1, b"\n   ours: ");
-    io::write_all(1, answer);
-    io::write_all(1, b"\n");
+fn show<R: Print>(rt: &R, what: &[u8], row: &[u8], answer: &[u8]) -> io::Result<()> {
+    let mut out = io::writer(rt);
+    out.write_all(what)?;
+    out.write_all(row)?;
+    out.write_all(b"\n   ours: ")?;
+    out.write_all(answer)?;
+    out.write_all(b"\n")
 }
 
 // Whether the reader answers as the row says, and what became of the type.
@@ -94,7 +96,7 @@ pub struct Tried {
 }
 
 // Says so where something is wrong.
-pub fn try_row(row: &[u8]) -> Tried {
+pub fn try_row<R: Print>(rt: &R, row: &[u8]) -> io::Result<Tried> {
     let mut text = [0u8; 2048];
     let mut out = [0u8; 2048];
     let k = lexis::until(row, 9);
@@ -104,11 +106,11 @@ pub fn try_row(row: &[u8]) -> Tried {
     let answer = prefix(&out, n);
     let same = lexis::same(answer, behind(row, k));
     if !same {
-        show(b"differs: ", row, answer);
+        show(rt, b"differs: ", row, answer)?;
     }
     let back = write_back(r);
     if back.lost {
-        show(b"not returned: ", row, answer);
+        show(rt, b"not returned: ", row, answer)?;
     }
-    Tried { same, back }
+    Ok(Tried { same, back })
 }

@@ -1,8 +1,9 @@
 // The readers and the writer at a terminal. The first word that is printed decides: accepted, refused or usage.
 #![tactic(auto)]
+
 mod counts;
+mod entries;
 mod help;
-mod lists;
 mod refusal;
 mod say;
 mod text;
@@ -11,21 +12,22 @@ mod words;
 
 use meaning::Reading;
 use say::say;
+use std::env::Env;
+use std::io::{self, ErrorKind, Input, Print};
 use words::{Asked, Task};
 
 // The type and the counts, or the refusal.
-fn report(text: &[u8], r: Reading) {
+fn report<R: Print>(rt: &R, text: &[u8], r: Reading) -> io::Result<()> {
     let why = r.refusal;
     let value = r.value;
     let note = r.note;
     let number = why.number();
     if number != 0 {
-        refusal::refuse(number, r.place, text);
-        return;
+        return refusal::refuse(rt, number, r.place, text);
     }
-    say(b"accepted\n");
-    types::fields(value);
-    counts::counts(note);
+    say(rt, b"accepted\n")?;
+    types::fields(rt, value)?;
+    counts::counts(rt, note)
 }
 
 fn reading(loose: bool, text: &[u8]) -> Reading {
@@ -36,48 +38,55 @@ fn reading(loose: bool, text: &[u8]) -> Reading {
 }
 
 // The written text and the counts, or the refusal, of the reader or of the writer.
-fn write(text: &[u8], r: Reading) {
+fn write<R: Print>(rt: &R, text: &[u8], r: Reading) -> io::Result<()> {
     let mut room = [0u8; 1024];
     let why = r.refusal;
     let value = r.value;
     let note = r.note;
     let number = why.number();
     if number != 0 {
-        refusal::refuse(number, r.place, text);
-        return;
+        return refusal::refuse(rt, number, r.place, text);
     }
     let w = writer::write(value, &mut room);
     let no = w.refusal;
     let refused = no.number();
     if refused != 0 {
-        refusal::refuse(refused, 0, text);
-        return;
+        return refusal::refuse(rt, refused, 0, text);
     }
-    say(b"accepted\n");
-    say(text::prefix(&room, w.len));
-    say(b"\n");
-    counts::counts(note);
+    say(rt, b"accepted\n")?;
+    say(rt, text::prefix(&room, w.len))?;
+    say(rt, b"\n")?;
+    counts::counts(rt, note)
 }
 
-fn answer(task: Task, text: &[u8]) {
+fn answer<R: Print>(rt: &R, task: Task, text: &[u8]) -> io::Result<()> {
     match task {
-        Task::Read => report(text, reading(true, text)),
-        Task::Strict => report(text, reading(false, text)),
-        Task::Write => write(text, reading(false, text)),
-        Task::WriteLoose => write(text, reading(true, text)),
+        Task::Read => report(rt, text, reading(true, text)),
+        Task::Strict => report(rt, text, reading(false, text)),
+        Task::Write => write(rt, text, reading(false, text)),
+        Task::WriteLoose => write(rt, text, reading(true, text)),
     }
 }
 
-fn carry_out(asked: Asked) {
+fn carry_out<R: Env + Input + Print>(rt: &R, asked: Asked) -> io::Result<()> {
     let mut room = [0u8; 2048];
     let task = asked.task;
-    let n = text::given(asked.at, &mut room);
-    answer(task, text::prefix(&room, n));
+    let n = text::given(rt, asked.at, &mut room);
+    answer(rt, task, text::prefix(&room, n))
 }
 
-fn main() {
-    let asked = words::understand();
+fn run<R: Env + Input + Print>(rt: &R) -> io::Result<()> {
+    let asked = words::understand(rt)?;
     if asked.understood {
-        carry_out(asked);
+        carry_out(rt, asked)?;
+    }
+    Ok(())
+}
+
+// Where nobody reads on, as behind `head`, the rest is left out, and that is no error.
+fn main(rt: HostRuntime) -> io::Result<()> {
+    match run(&rt) {
+        Err(e) if e.kind() == ErrorKind::BrokenPipe => Ok(()),
+        ended => ended,
     }
 }

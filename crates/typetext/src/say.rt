@@ -1,31 +1,31 @@
 // Bytes and numbers to standard output.
 ghost use Rattle.std.specs.Prelude.{◌≡◌, nat_abs};
 
-pub fn say(s: &[u8]) {
-    io::write_all(1, s);
+use std::io::{self, Print, Write};
+
+pub fn say<R: Print>(rt: &R, s: &[u8]) -> io::Result<()> {
+    io::writer(rt).write_all(s)
 }
 
 // One column for each byte: what isn't printable is a dot.
-fn column(b: u8) {
+fn column<R: Print>(rt: &R, b: u8) -> io::Result<()> {
     if (b < 32) | (126 < b) {
-        say(b".");
-        return;
+        return say(rt, b".");
     }
     let one = [b];
-    say(&one);
+    say(rt, &one)
 }
 
 // Bytes that came from outside.
-pub fn say_plainly(s: &[u8]) {
-    let mut i = 0;
-    while i < s.len() {
-        column(s[i]);
-        i += 1;
+pub fn say_plainly<R: Print>(rt: &R, s: &[u8]) -> io::Result<()> {
+    for b in s {
+        column(rt, *b)?;
     }
+    Ok(())
 }
 
-pub fn say_number(n: usize) {
-    io::print_decimal(1, n as u64);
+pub fn say_number<R: Print>(rt: &R, n: usize) -> io::Result<()> {
+    print!(rt; "{n}")
 }
 
 // How far a number is from 0; there is no special case for the smallest.
@@ -39,13 +39,13 @@ fn magnitude(z: i64) -> u64
 }
 
 // The smallest number is DYNAMIC, and printed `?`.
-pub fn say_signed(z: i64) {
+pub fn say_signed<R: Print>(rt: &R, z: i64) -> io::Result<()> {
     if z == -9223372036854775808 {
-        say(b"?");
-        return;
+        return say(rt, b"?");
     }
     if z < 0 {
-        say(b"-");
+        say(rt, b"-")?;
     }
-    io::print_decimal(1, magnitude(z));
+    let far = magnitude(z);
+    print!(rt; "{far}")
 }

@@ -1,6 +1,9 @@
 // The text to read, from an argument or from standard input.
 ghost use Rattle.std.specs.Prelude.{◌≤◌, ◌≡◌, length, take};
 
+use std::env::{Env, FillError};
+use std::io::{Input, Read};
+
 // The first `n` bytes, or all.
 pub fn prefix(s: &[u8], n: usize) -> &[u8]
     ensures { result.now ≡ take n s.now }
@@ -26,24 +29,39 @@ fn unended(s: &[u8], n: usize) -> usize
     if s[n - 1] == 10 { n - 1 } else { n }
 }
 
-fn input(room: &mut [u8]) -> usize {
-    let n = io::read_full(0, room);
-    unended(room, n)
-}
-
-// An argument that doesn't fit has more bytes than the room, which is then full.
-fn argument(at: usize, room: &mut [u8]) -> usize {
-    let n = os::arg(at, room);
-    if os::errno() == libc::ENAMETOOLONG {
-        return room.len();
+// Reads until the room is full, the input ends or a read fails.
+fn fill<R: Read>(from: &mut R, room: &mut [u8]) -> usize
+    ensures { result ≤ length room.new }
+{
+    let mut n = 0;
+    while n < room.len() {
+        match from.read(&mut room[n..]) {
+            Ok(0) => return n,
+            Ok(k) => n += k,
+            Err(_) => return n,
+        }
     }
     n
 }
 
-// Puts argument `at` into the room, or standard input where that is 0; what doesn't fit is left out.
-pub fn given(at: usize, room: &mut [u8]) -> usize {
-    if at == 0 {
-        return input(room);
+fn input<R: Input>(rt: &R, room: &mut [u8]) -> usize {
+    let n = fill(&mut rt.reader(), room);
+    unended(room, n)
+}
+
+// An argument that doesn't fit has more bytes than the room, which is then full.
+fn argument<R: Env>(rt: &R, at: usize, room: &mut [u8]) -> usize {
+    match rt.arg(at, room) {
+        Ok(n) => n,
+        Err(FillError::TooLong) => room.len(),
+        Err(FillError::NotPresent) => 0,
     }
-    argument(at, room)
+}
+
+// Puts argument `at` into the room, or standard input where that is 0; what doesn't fit is left out.
+pub fn given<R: Env + Input>(rt: &R, at: usize, room: &mut [u8]) -> usize {
+    if at == 0 {
+        return input(rt, room);
+    }
+    argument(rt, at, room)
 }

@@ -1,9 +1,10 @@
 // A type, field by field: those that its kind uses.
-use super::lists::{list32, list64, wide};
+use super::entries::{list32, list64, wide};
 use super::say::{say, say_signed};
 use super::text::{behind, prefix};
 use meaning::{Kind, Padding, Record};
 use scalars::Scalar;
+use std::io::{self, Print};
 
 // Where a scalar's name stands in the table of names: each has nine places.
 fn name_at(s: Scalar) -> usize {
@@ -27,153 +28,153 @@ fn name_at(s: Scalar) -> usize {
     }
 }
 
-fn scalar(s: Scalar) {
+fn scalar<R: Print>(rt: &R, s: Scalar) -> io::Result<()> {
     let names =
         b"i1       i4       i8       i16      i32      i64      f16      bf16     f32      tf32     f64      f8E4M3FN f8E5M2   f8E8M0FNUf4E2M1FN f8E5M3FNU";
     let name = prefix(behind(names, name_at(s)), 9);
-    say(lexis::trim_end_matches(name, b' '));
-    say(b"\n");
+    say(rt, lexis::trim_end_matches(name, b' '))?;
+    say(rt, b"\n")
 }
 
-fn padding(p: Padding) {
-    say(b"  padding            ");
+fn padding<R: Print>(rt: &R, p: Padding) -> io::Result<()> {
+    say(rt, b"  padding            ")?;
     match p {
-        Padding::Absent => say(b"none\n"),
-        Padding::Zero => say(b"zero\n"),
-        Padding::NegZero => say(b"negative zero\n"),
-        Padding::Nan => say(b"not a number\n"),
-        Padding::PosInf => say(b"positive infinity\n"),
-        Padding::NegInf => say(b"negative infinity\n"),
+        Padding::Absent => say(rt, b"none\n"),
+        Padding::Zero => say(rt, b"zero\n"),
+        Padding::NegZero => say(rt, b"negative zero\n"),
+        Padding::Nan => say(rt, b"not a number\n"),
+        Padding::PosInf => say(rt, b"positive infinity\n"),
+        Padding::NegInf => say(rt, b"negative infinity\n"),
     }
 }
 
-fn attribute(present: bool) {
-    say(b"  pointer attribute  ");
+fn attribute<R: Print>(rt: &R, present: bool) -> io::Result<()> {
+    say(rt, b"  pointer attribute  ")?;
     if present {
-        say(b"yes\n");
+        say(rt, b"yes\n")
     } else {
-        say(b"no\n");
+        say(rt, b"no\n")
     }
 }
 
-fn kind(name: &[u8]) {
-    say(b"  kind               ");
-    say(name);
-    say(b"\n");
+fn kind<R: Print>(rt: &R, name: &[u8]) -> io::Result<()> {
+    say(rt, b"  kind               ")?;
+    say(rt, name)?;
+    say(rt, b"\n")
 }
 
-fn element(pointer: bool, e: Scalar) {
-    say(b"  element            ");
+fn element<R: Print>(rt: &R, pointer: bool, e: Scalar) -> io::Result<()> {
+    say(rt, b"  element            ")?;
     if pointer {
-        say(b"pointer to ");
+        say(rt, b"pointer to ")?;
     }
-    scalar(e);
+    scalar(rt, e)
 }
 
 // The tensor that a view is of, or that is viewed.
-fn tensor(r: Record) {
+fn tensor<R: Print>(rt: &R, r: Record) -> io::Result<()> {
     let e = r.element;
     let shape = r.shape;
     let strides = r.strides;
-    element(false, e);
-    list64(b"  shape              ", shape, r.shape_len);
-    list64(b"  strides            ", strides, r.strides_len);
-    attribute(r.attribute);
+    element(rt, false, e)?;
+    list64(rt, b"  shape              ", shape, r.shape_len)?;
+    list64(rt, b"  strides            ", strides, r.strides_len)?;
+    attribute(rt, r.attribute)
 }
 
-fn tile_shape(r: Record) {
+fn tile_shape<R: Print>(rt: &R, r: Record) -> io::Result<()> {
     let tile = r.tile;
-    list32(b"  tile shape         ", tile, r.tile_len);
+    list32(rt, b"  tile shape         ", tile, r.tile_len)
 }
 
-fn map(r: Record) {
+fn map<R: Print>(rt: &R, r: Record) -> io::Result<()> {
     let map = r.map;
-    list32(b"  dimension map      ", map, r.map_len);
+    list32(rt, b"  dimension map      ", map, r.map_len)
 }
 
-fn traversal(r: Record) {
+fn traversal<R: Print>(rt: &R, r: Record) -> io::Result<()> {
     let traversal = r.traversal;
-    list32(b"  traversal strides  ", traversal, r.traversal_len);
+    list32(rt, b"  traversal strides  ", traversal, r.traversal_len)
 }
 
-fn sparse(z: i32) {
-    say(b"  sparse dimension   ");
-    say_signed(wide(z));
-    say(b"\n");
+fn sparse<R: Print>(rt: &R, z: i32) -> io::Result<()> {
+    say(rt, b"  sparse dimension   ")?;
+    say_signed(rt, wide(z))?;
+    say(rt, b"\n")
 }
 
-fn plain(r: Record) {
+fn plain<R: Print>(rt: &R, r: Record) -> io::Result<()> {
     let e = r.element;
-    kind(b"scalar");
-    element(false, e);
-    attribute(r.attribute);
+    kind(rt, b"scalar")?;
+    element(rt, false, e)?;
+    attribute(rt, r.attribute)
 }
 
-fn pointer(r: Record) {
+fn pointer<R: Print>(rt: &R, r: Record) -> io::Result<()> {
     let e = r.element;
-    kind(b"pointer");
-    say(b"  points to          ");
-    scalar(e);
-    attribute(r.attribute);
+    kind(rt, b"pointer")?;
+    say(rt, b"  points to          ")?;
+    scalar(rt, e)?;
+    attribute(rt, r.attribute)
 }
 
-fn tile(r: Record) {
+fn tile<R: Print>(rt: &R, r: Record) -> io::Result<()> {
     let e = r.element;
     let shape = r.shape;
-    kind(b"tile");
-    element(r.pointer, e);
-    list64(b"  shape              ", shape, r.shape_len);
-    attribute(r.attribute);
+    kind(rt, b"tile")?;
+    element(rt, r.pointer, e)?;
+    list64(rt, b"  shape              ", shape, r.shape_len)?;
+    attribute(rt, r.attribute)
 }
 
-fn tensor_view(r: Record) {
-    kind(b"tensor view");
-    tensor(r);
+fn tensor_view<R: Print>(rt: &R, r: Record) -> io::Result<()> {
+    kind(rt, b"tensor view")?;
+    tensor(rt, r)
 }
 
-fn partition(r: Record) {
+fn partition<R: Print>(rt: &R, r: Record) -> io::Result<()> {
     let p = r.padding;
-    kind(b"partition view");
-    tile_shape(r);
-    padding(p);
-    tensor(r);
-    map(r);
+    kind(rt, b"partition view")?;
+    tile_shape(rt, r)?;
+    padding(rt, p)?;
+    tensor(rt, r)?;
+    map(rt, r)
 }
 
-fn gather_scatter(r: Record) {
+fn gather_scatter<R: Print>(rt: &R, r: Record) -> io::Result<()> {
     let p = r.padding;
-    kind(b"gather-scatter view");
-    tile_shape(r);
-    padding(p);
-    tensor(r);
-    sparse(r.sparse);
+    kind(rt, b"gather-scatter view")?;
+    tile_shape(rt, r)?;
+    padding(rt, p)?;
+    tensor(rt, r)?;
+    sparse(rt, r.sparse)
 }
 
-fn strided(r: Record) {
+fn strided<R: Print>(rt: &R, r: Record) -> io::Result<()> {
     let p = r.padding;
-    kind(b"strided view");
-    tile_shape(r);
-    traversal(r);
-    padding(p);
-    tensor(r);
-    map(r);
+    kind(rt, b"strided view")?;
+    tile_shape(rt, r)?;
+    traversal(rt, r)?;
+    padding(rt, p)?;
+    tensor(rt, r)?;
+    map(rt, r)
 }
 
-fn token(r: Record) {
-    kind(b"token");
-    attribute(r.attribute);
+fn token<R: Print>(rt: &R, r: Record) -> io::Result<()> {
+    kind(rt, b"token")?;
+    attribute(rt, r.attribute)
 }
 
-pub fn fields(r: Record) {
+pub fn fields<R: Print>(rt: &R, r: Record) -> io::Result<()> {
     let k = r.kind;
     match k {
-        Kind::Scalar => plain(r),
-        Kind::Pointer => pointer(r),
-        Kind::Tile => tile(r),
-        Kind::TensorView => tensor_view(r),
-        Kind::Partition => partition(r),
-        Kind::GatherScatter => gather_scatter(r),
-        Kind::Strided => strided(r),
-        Kind::Token => token(r),
+        Kind::Scalar => plain(rt, r),
+        Kind::Pointer => pointer(rt, r),
+        Kind::Tile => tile(rt, r),
+        Kind::TensorView => tensor_view(rt, r),
+        Kind::Partition => partition(rt, r),
+        Kind::GatherScatter => gather_scatter(rt, r),
+        Kind::Strided => strided(rt, r),
+        Kind::Token => token(rt, r),
     }
 }

@@ -2,6 +2,8 @@
 use super::help::{help, synopsis};
 use super::say::{say, say_plainly};
 use super::text::prefix;
+use std::env::{Env, FillError};
+use std::io::{self, Print};
 
 #[derive(Clone, Copy)]
 pub enum Task {
@@ -27,115 +29,130 @@ fn nothing() -> Asked {
     }
 }
 
-// Whether argument `i` is this word.
-fn is(i: usize, word: &[u8]) -> bool {
-    let mut room = [0u8; 16];
-    let n = os::arg(i, &mut room);
-    if os::errno() != 0 {
-        return false;
+// How many words there are, the program's name among them.
+fn arg_count<R: Env>(rt: &R) -> usize {
+    let mut room = [0u8; 1];
+    for i in 0..usize::MAX {
+        if let Err(FillError::NotPresent) = rt.arg(i, &mut room) {
+            return i;
+        }
     }
-    lexis::same(prefix(&room, n), word)
+    usize::MAX
 }
 
-fn asks_help(i: usize) -> bool {
-    is(i, b"--help") | is(i, b"-h") | is(i, b"help")
+// Whether argument `i` is this word.
+fn is<R: Env>(rt: &R, i: usize, word: &[u8]) -> bool {
+    let mut room = [0u8; 16];
+    match rt.arg(i, &mut room) {
+        Ok(n) => lexis::same(prefix(&room, n), word),
+        Err(_) => false,
+    }
+}
+
+fn asks_help<R: Env>(rt: &R, i: usize) -> bool {
+    is(rt, i, b"--help") | is(rt, i, b"-h") | is(rt, i, b"help")
 }
 
 // No type text begins with `-`.
-fn is_option(i: usize) -> bool {
+fn is_option<R: Env>(rt: &R, i: usize) -> bool {
     let mut room = [0u8; 1];
-    os::arg(i, &mut room);
-    if os::errno() == libc::EINVAL {
-        return false;
+    match rt.arg(i, &mut room) {
+        Err(FillError::NotPresent) => false,
+        _ => room[0] == b'-',
     }
-    room[0] == b'-'
 }
 
 // The first bytes of argument `i`, in quotes.
-fn quote(i: usize) {
+fn quote<R: Env + Print>(rt: &R, i: usize) -> io::Result<()> {
     let mut room = [0u8; 64];
-    let n = os::arg(i, &mut room);
-    say(b"'");
-    if os::errno() == libc::ENAMETOOLONG {
-        say_plainly(&room);
-        say(b"...");
-    } else {
-        say_plainly(prefix(&room, n));
+    let got = rt.arg(i, &mut room);
+    say(rt, b"'")?;
+    match got {
+        Ok(n) => say_plainly(rt, prefix(&room, n))?,
+        // It leaves the first bytes.
+        Err(FillError::TooLong) => {
+            say_plainly(rt, &room)?;
+            say(rt, b"...")?;
+        }
+        Err(FillError::NotPresent) => {}
     }
-    say(b"'");
+    say(rt, b"'")
 }
 
-fn unknown(what: &[u8], i: usize) -> Asked {
-    say(b"usage error: ");
-    say(what);
-    quote(i);
-    say(b" is not known here\n\n");
-    synopsis();
-    nothing()
+fn unknown<R: Env + Print>(rt: &R, what: &[u8], i: usize) -> io::Result<Asked> {
+    say(rt, b"usage error: ")?;
+    say(rt, what)?;
+    quote(rt, i)?;
+    say(rt, b" is not known here\n\n")?;
+    synopsis(rt)?;
+    Ok(nothing())
 }
 
-fn too_many() -> Asked {
-    say(b"usage error: too many words; a text with blanks or < stands in quotes\n\n");
-    synopsis();
-    nothing()
+fn too_many<R: Print>(rt: &R) -> io::Result<Asked> {
+    say(
+        rt,
+        b"usage error: too many words; a text with blanks or < stands in quotes\n\n",
+    )?;
+    synopsis(rt)?;
+    Ok(nothing())
 }
 
 // The task, with its text at argument `at` as the last of `count` words.
-fn with_text(task: Task, at: usize, count: usize) -> Asked {
+fn with_text<R: Env + Print>(rt: &R, task: Task, at: usize, count: usize) -> io::Result<Asked> {
     if count <= at {
-        return Asked {
+        return Ok(Asked {
             understood: true,
             task,
             at: 0,
-        };
+        });
     }
-    if is(at, b"--help") | is(at, b"-h") {
-        help();
-        return nothing();
+    if is(rt, at, b"--help") | is(rt, at, b"-h") {
+        help(rt)?;
+        return Ok(nothing());
     }
-    if is_option(at) {
-        return unknown(b"the option ", at);
+    if is_option(rt, at) {
+        return unknown(rt, b"the option ", at);
     }
     if 1 < count - at {
-        return too_many();
+        return too_many(rt);
     }
-    Asked {
+    Ok(Asked {
         understood: true,
         task,
         at,
-    }
+    })
 }
 
-fn asks_write(count: usize) -> Asked {
-    if is(2, b"--loose") {
-        return with_text(Task::WriteLoose, 3, count);
+fn asks_write<R: Env + Print>(rt: &R, count: usize) -> io::Result<Asked> {
+    if is(rt, 2, b"--loose") {
+        return with_text(rt, Task::WriteLoose, 3, count);
     }
-    if is(3, b"--loose") {
+    if is(rt, 3, b"--loose") {
         if count == 4 {
-            return with_text(Task::WriteLoose, 2, 3);
+            return with_text(rt, Task::WriteLoose, 2, 3);
         }
     }
-    with_text(Task::Write, 2, count)
+    with_text(rt, Task::Write, 2, count)
 }
 
-pub fn understand() -> Asked {
-    let count = os::arg_count();
+pub fn understand<R: Env + Print>(rt: &R) -> io::Result<Asked> {
+    let count = arg_count(rt);
     if count < 2 {
-        help();
-        return nothing();
+        help(rt)?;
+        return Ok(nothing());
     }
-    if asks_help(1) {
-        help();
-        return nothing();
+    if asks_help(rt, 1) {
+        help(rt)?;
+        return Ok(nothing());
     }
-    if is(1, b"read") {
-        return with_text(Task::Read, 2, count);
+    if is(rt, 1, b"read") {
+        return with_text(rt, Task::Read, 2, count);
     }
-    if is(1, b"strict") {
-        return with_text(Task::Strict, 2, count);
+    if is(rt, 1, b"strict") {
+        return with_text(rt, Task::Strict, 2, count);
     }
-    if is(1, b"write") {
-        return asks_write(count);
+    if is(rt, 1, b"write") {
+        return asks_write(rt, count);
     }
-    unknown(b"the command ", 1)
+    unknown(rt, b"the command ", 1)
 }
