@@ -1,5 +1,6 @@
 -- `parse` meets its contract: what the strict reader settles is the answer; what it leaves open the port reads.
-use mathlib.Core.Path.{sym, ◌∙◌}
+use native.Mathlib.Omega.{arith}
+use mathlib.Core.Path.{◌∙◌}
 use Rattle.lexis.proofs.Lists.{rest}
 use Rattle.ordinary.proofs.Asking as L
 use Rattle.ordinary.proofs.parse.Goals as goal
@@ -10,4 +11,4 @@ returns-then-number-ne5 c = let s = c.args.text.now in let p = c.parse_strict-r 
 
 pub returns : goal.returns
 returns c = let s = c.args.text.now in let p = c.parse_strict-r in
-    c.parse.ensures ∙ L.left_open s _ (rest s 0) p.result p.ensures (sym c.number.ensures ∙ c.if-number-ne5.false)
+    c.parse.ensures ∙ L.left_open s _ (rest s 0) p.result p.ensures (omega (arith, c.number.ensures))
