@@ -8,7 +8,8 @@ ghost use Rattle.std.specs.Prelude.{◌≤◌, IfOk, length};
 
 use say::{line, say, say_number};
 use sheet::Totals;
-use std::io::{self, Input, Print, Read};
+use std::env::Env;
+use std::io::{self, ErrorKind, Input, Print, Read};
 
 fn defaults<R: Print>(rt: &R, t: Totals) -> io::Result<()> {
     say(rt, b"defaults ")?;
@@ -62,14 +63,22 @@ fn fill<R: Read>(from: &mut R, room: &mut [u8]) -> io::Result<usize>
     Ok(n)
 }
 
-fn main(rt: HostRuntime) -> io::Result<()> {
-    if !words::ask_for_totals(&rt)? {
+fn run<R: Env + Input + Print>(rt: &R) -> io::Result<()> {
+    if !words::ask_for_totals(rt)? {
         return Ok(());
     }
     // One byte more than a sheet may have: what is longer fills it, and is refused.
     let mut room = [0u8; sheet::LIMIT + 1];
     match fill(&mut rt.reader(), &mut room) {
-        Ok(n) => report(&rt, sheet::totals(&room[..n])),
-        Err(_) => unreadable(&rt),
+        Ok(n) => report(rt, sheet::totals(&room[..n])),
+        Err(_) => unreadable(rt),
+    }
+}
+
+// A pipe that nobody reads on is no error.
+fn main(rt: HostRuntime) -> io::Result<()> {
+    match run(&rt) {
+        Err(e) if e.kind() == ErrorKind::BrokenPipe => Ok(()),
+        r => r,
     }
 }
