@@ -1,5 +1,6 @@
 -- Lists laid into arrays, over the capacity: one entry more, and what a loop over the parts between the bytes x keeps.
 -- The parts that are passed stand in what is kept; the list so far is laid from them.
+
 use mathlib.Core.Path.{◌≡◌, refl, sym, ap, subst, ◌∙◌}
 use mathlib.Core.Bool.{true}
 use mathlib.Core.List as L
@@ -9,8 +10,8 @@ use native.Mathlib.Numerals.{add-one}
 use native.Mathlib.Omega.{arith}
 use lib.Dec.{eqb}
 use lib.IntN.{ℤ}
-use lib.ListN.{length, take, drop, length-drop, length-append}
-use lib.Seq.{take_all, drop-drop}
+use lib.ListN.{length, take, drop, set, length-drop, length-append}
+use lib.Seq.{take_all, drop-drop, set_out}
 use Rattle.lexis.specs.Text.{Text, until, split}
 use Rattle.lexis.proofs.Lists.{rest}
 use Rattle.lexis.proofs.Seeking.{until_take}
@@ -134,3 +135,7 @@ module _ (w x : ℕ) (said : Text → Entry) where
 
     pub last_at : length s - at ≤ k → length (drop at s) ≤ length (until (eqb x) (drop at s))
     last_at h = rw (← from_there, length-drop) h
+
+-- past the end storing changes nothing
+pub unset : (l : List ℤ) (i : ℕ) (a : ℤ) → length l ≤ i → set l i a ≡ l
+unset l i a h = set_out l i a h

@@ -34,6 +34,7 @@ pub struct Front {
 }
 
 // `l` with one value more, past the capacity only counted, and the tally that is then told.
+#[tactic(auto, using(crate::proofs::Laying::unset))]
 fn put64(l: List64, v: i64, tally: Tally) -> List64
     requires { l.row.len + 1 < 2 ^ 64 }
     ensures { list64 result ≡ put (list64 l) v tally }
@@ -55,6 +56,7 @@ fn put64(l: List64, v: i64, tally: Tally) -> List64
     }
 }
 
+#[tactic(auto, using(crate::proofs::Laying::unset))]
 fn put32(l: List32, v: i32, tally: Tally) -> List32
     requires { l.row.len + 1 < 2 ^ 64 }
     ensures { list32 result ≡ put (list32 l) v tally }
