@@ -1,7 +1,7 @@
 -- Rows of tables: a text, and what the ordinary reader answers at 8 entries and 1,024 bytes, written out without the definition's own makers.
 use Prim.Native.Nat.{ℕ, zero, suc}
 use Prim.Native.String.{String}
-use mathlib.Core.Bool.{Bool, true, false}
+use mathlib.Core.Bool.{Bool, false}
 use mathlib.Core.List as L
 use mathlib.Core.List.{List, [], ◌∷◌}
 use lib.IntN.{ℤ, pos, negsuc}

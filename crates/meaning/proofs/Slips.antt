@@ -1,6 +1,6 @@
 -- The slips that document 01 expects, and those next to them: one table, one theorem. The answers are the Rust's; the counts follow document 01.
 use mathlib.Core.Path.{◌≡◌, refl}
-use mathlib.Core.Bool.{true, false}
+use mathlib.Core.Bool.{false}
 use mathlib.Core.List as L
 use mathlib.Core.List.{List, [], ◌∷◌}
 use lib.IntN.{pos, negsuc}

@@ -1,5 +1,5 @@
 -- Numerals of strict forms (01, "Strict forms"): an integer written in decimal, so with no `+`, no leading zero, no `-0`.
-use Rattle.std.specs.Prelude.{ℕ, zero, suc, ◌+◌, ◌-◌, ◌/◌, ◌%◌, ◌^◌, Bool, true, false, List, [], ◌∷◌, ltb, ℤ, pos, negsuc}
+use Rattle.std.specs.Prelude.{ℕ, zero, suc, ◌+◌, ◌-◌, ◌/◌, ◌%◌, ◌^◌, Bool, true, false, [], ◌∷◌, ltb, ℤ, pos, negsuc}
 use Prim.Native.Char.{code}
 use Rattle.lexis.specs.Text.{Text, bytes}
 

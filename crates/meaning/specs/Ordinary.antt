@@ -1,15 +1,14 @@
 -- `Type::parse` (01, module 7), and what the ordinary reader answers.
-use Rattle.std.specs.Prelude.{if◌then◌else◌, ℕ, zero, suc, Bool, true, false, ◌||◌, List, [], ◌∷◌, leb, length}
+use Rattle.std.specs.Prelude.{if◌then◌else◌, ℕ, zero, suc, ◌||◌, List, [], ◌∷◌, leb, length}
 use Prim.Native.String.{String}
 use Rattle.std.proofs.Math.Option.{Option, none, some}
-use Rattle.lexis.specs.Text.{Text, bytes, same, trim, Cut, nowhere, at, cut}
+use Rattle.lexis.specs.Text.{Text, bytes, same, trim, nowhere, at, cut}
 use Rattle.scalars.specs.Names.{scalar_name}
 use Rattle.meaning.specs.Parts.{each, bracketed, remove}
 use Rattle.meaning.specs.Found.{Found, plain, token, with_attribute, flat, within, counts, unnoted}
 use Rattle.meaning.specs.Tile.{tile, tensor_view}
 use Rattle.meaning.specs.Views.{partition_view, gather_scatter_view, strided_view}
 use Rattle.meaning.specs.declared.Kind.TheVariants as K
-use Rattle.meaning.specs.declared.Note.{Note}
 use Rattle.meaning.specs.declared.Reading.{Reading}
 use Rattle.meaning.specs.declared.Refusal.{Refusal}
 use Rattle.meaning.specs.declared.Refusal.TheVariants.{Accepted, TooLong, HighByte, NoType, TooMany}

@@ -2,7 +2,7 @@
 use Rattle.std.specs.Prelude.{if◌then◌else◌, ℕ, zero, suc, ◌-◌, Bool, true, false, List, [], ◌∷◌, eqb, length}
 use Prim.Native.Char.{code}
 use Rattle.std.proofs.Math.Option.{Option, none, some}
-use Rattle.lexis.specs.Text.{Text, bytes, begins, after, Cut, nowhere, at, later, cut}
+use Rattle.lexis.specs.Text.{Text, begins, after, Cut, nowhere, at, later, cut}
 
 -- what is done to a value that may be lacking
 abbrev pub each : {A B : Type 0} → (A → B) → Option A → Option B

@@ -1,5 +1,5 @@
 -- The three views (01, module 6).
-use Rattle.std.specs.Prelude.{if◌then◌else◌, ℕ, zero, suc, ◌+◌, Bool, true, false, ◌||◌, ◌&&◌, not, List, [], ◌∷◌, eqb, ℤ, pos, length, replicate}
+use Rattle.std.specs.Prelude.{if◌then◌else◌, ℕ, zero, suc, ◌+◌, Bool, false, ◌||◌, ◌&&◌, not, List, [], ◌∷◌, eqb, ℤ, pos, length, replicate}
 use Prim.Native.Char.{code}
 use mathlib.Core.List as L
 use Rattle.std.proofs.Math.Option.{Option, none, some}

@@ -2,7 +2,7 @@
 use Rattle.lexis.proofs.Passing as L
 use Rattle.lexis.specs.Text.{outside, some_of}
 use lib.ListN.{take, drop, get_or}
-use Prim.Native.Nat.{ℕ, ◌+◌, ◌-◌}
+use Prim.Native.Nat.{ℕ, ◌+◌}
 use native.Mathlib.Omega.{arith}
 use mathlib.Core.Bool.{Bool, ◌||◌}
 use mathlib.Core.Path.{◌≡◌, sym, ap, ◌∙◌}

@@ -2,9 +2,8 @@
 -- if the last sixteen bytes have a hit.
 use Rattle.lexis.proofs.Passing as L
 use Rattle.lexis.proofs.Seeking as S
-use borrow.Author.Tests.{eq-eqb, ne_eqb, not-true}
+use borrow.Author.Tests.{eq-eqb, ne_eqb}
 use lib.Dec.{eqb}
-use Prim.Native.Nat.{◌-◌}
 use mathlib.Core.Path.{sym, ◌∙◌}
 use borrow.Author.Rules.{rules}
 use Rattle.lexis.proofs.blocks.seek.Goals as goal

@@ -3,8 +3,6 @@
 use Rattle.lexis.proofs.Passing as L
 use Rattle.lexis.proofs.Seeking as S
 use Rattle.lexis.specs.Text as T
-use borrow.Author.Tests.{not-true}
-use Prim.Native.Nat.{◌-◌}
 use mathlib.Core.Path.{sym, ◌∙◌}
 use borrow.Author.Rules.{rules}
 use Rattle.lexis.proofs.blocks.seek_outside.Goals as goal

@@ -1,6 +1,5 @@
 -- `trim_end` meets its contract: the bytes from e on are white.
 use lib.Seq.{length-take-le}
-use borrow.Author.Tests.{not-true, not-false}
 use Rattle.lexis.proofs.Trimming as L
 use Rattle.lexis.specs.Text as T
 use mathlib.Core.Path.{sym, ◌∙◌}

@@ -1,9 +1,7 @@
 -- `trim_start` meets its contract: the i bytes passed are white.
-use borrow.Author.Tests.{not-true, not-false}
 use Rattle.lexis.proofs.Lists.{rest}
 use Rattle.lexis.proofs.Trimming as L
 use Rattle.lexis.specs.Text as T
-use Prim.Native.Nat.{◌-◌}
 use mathlib.Core.Path.{sym, ◌∙◌}
 use borrow.Author.Rules.{rules}
 use Rattle.lexis.proofs.text.trim_start.Goals as goal

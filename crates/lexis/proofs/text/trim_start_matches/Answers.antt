@@ -2,7 +2,6 @@
 use borrow.Author.Tests.{eq-eqb, ne_eqb}
 use Rattle.lexis.proofs.Lists.{rest}
 use Rattle.lexis.proofs.Trimming as L
-use Prim.Native.Nat.{◌-◌}
 use mathlib.Core.Path.{sym, ◌∙◌}
 use borrow.Author.Rules.{rules}
 use Rattle.lexis.proofs.text.trim_start_matches.Goals as goal

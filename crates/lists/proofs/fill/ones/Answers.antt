@@ -1,6 +1,6 @@
 -- A one stands before the place i as often as it is to.
 use borrow.Author.Rules.{rules}
-use Prim.Native.Nat.{◌-◌, ◌<◌}
+use Prim.Native.Nat.{◌<◌}
 use mathlib.Core.Path.{◌≡◌, sym}
 use lib.IntN.{pos}
 use lib.ListN.{length, replicate, length-replicate, get_or-replicate}

@@ -1,6 +1,5 @@
 -- The list is laid from the parts before the place (`Kept`), with the rest of the text from there on.
 use borrow.Author.Rules.{rules}
-use Prim.Native.Nat.{◌-◌}
 use lib.Dec.{eqb}
 use Rattle.meaning.specs.Tile.{dimension}
 use Rattle.lists.proofs.Entries as E

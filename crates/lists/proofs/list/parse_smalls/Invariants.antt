@@ -1,7 +1,5 @@
 -- As for dimensions, with the reader of 32-bit entries; the loop sees the default by its bits.
 use lib.ListN.{length}
-use mir.Syntax.{w32}
-use mir.Val.{to_z}
 use Rattle.meaning.specs.Views.{small}
 use Rattle.lists.specs.Laid.{list32}
 use Rattle.lists.proofs.Laying as L

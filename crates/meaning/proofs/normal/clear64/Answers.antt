@@ -1,5 +1,5 @@
 -- A list of 64 bits is clear. Invariant: whether it is clear is whether all is zero from the entry i on.
-use Prim.Native.Nat.{◌-◌, ◌<◌}
+use Prim.Native.Nat.{◌<◌}
 use native.Mathlib.Omega.{arith}
 use mathlib.Core.Path.{◌≡◌, sym, ◌∙◌}
 use borrow.Author.Rules.{rules}

@@ -1,6 +1,5 @@
 -- `digits` meets its contract: the answer is that for the rest of the digits, after those that wrote n, which is within the limit.
 use Rattle.numerals.proofs.Numbers as L
-use Prim.Native.Nat.{◌-◌}
 use mathlib.Core.Path.{sym, ◌∙◌}
 use borrow.Author.Rules.{rules}
 use Rattle.numerals.proofs.numeral.digits.Goals as goal

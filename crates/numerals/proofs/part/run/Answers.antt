@@ -1,7 +1,6 @@
 -- `run` meets its contract: zeros, then digits have been passed up to i, and wrote n.
 use Rattle.numerals.proofs.Walking as L
 use borrow.Author.Tests.{eq-eqb, ne_eqb}
-use Prim.Native.Nat.{◌-◌}
 use mathlib.Core.Path.{sym, ◌∙◌}
 use borrow.Author.Rules.{rules}
 use Rattle.numerals.proofs.part.run.Goals as goal

@@ -2,9 +2,7 @@
 use Rattle.lexis.proofs.Passing as L
 use Rattle.lexis.proofs.Seeking as S
 use Rattle.numerals.specs.Parts.{ink}
-use Prim.Native.Nat.{◌-◌}
-use mathlib.Core.Bool.{not}
-use mathlib.Core.Path.{sym, ap, ◌∙◌}
+use mathlib.Core.Path.{sym, ◌∙◌}
 use borrow.Author.Rules.{rules}
 use Rattle.numerals.proofs.part.seek_ink.Goals as goal
 

@@ -3,7 +3,6 @@ use Rattle.lexis.specs.Text.{Text, bytes}
 use Rattle.scalars.proofs.Naming as L
 use mathlib.Core.Path.{refl}
 use native.Mathlib.Omega.{arith}
-use borrow.Author.Rules.{rules}
 use Rattle.scalars.proofs.scalar.of_eight.Goals as goal
 
 abbrev table : Text
