@@ -13,7 +13,7 @@ use lib.ListN.{length, take, drop, get_or, length-take, length-drop}
 use Rattle.lexis.specs.Text.{Text, begins, cut, place, some_of, until}
 use Rattle.lexis.proofs.Lists.{rest, view}
 use Rattle.lexis.proofs.Seeking.{nowhere_short, cut_within}
-use Rattle.port.specs.Seen.{seen, told, Sight, key}
+use Rattle.port.specs.Seen.{told, Sight, key}
 use Rattle.port.specs.Keys.{Spot}
 use Rattle.port.proofs.Seeing as S
 

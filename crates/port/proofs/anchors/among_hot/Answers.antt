@@ -3,7 +3,7 @@ use Rattle.lexis.proofs.Passing as L
 use Rattle.lexis.specs.Text.{some_of}
 use Rattle.port.specs.Seen.{hot}
 use lib.ListN.{take, drop}
-use Prim.Native.Nat.{ℕ, ◌-◌}
+use Prim.Native.Nat.{ℕ}
 use native.Mathlib.Omega.{arith}
 use mathlib.Core.Bool.{◌||◌}
 use mathlib.Core.Path.{◌≡◌, sym, ap, ◌∙◌}

@@ -2,7 +2,6 @@
 use Rattle.lexis.proofs.Passing as L
 use Rattle.lexis.proofs.Seeking as S
 use Rattle.port.specs.Seen.{hot}
-use Prim.Native.Nat.{◌-◌}
 use mathlib.Core.Path.{sym, ◌∙◌}
 use borrow.Author.Rules.{rules}
 use Rattle.port.proofs.anchors.seek_hot.Goals as goal

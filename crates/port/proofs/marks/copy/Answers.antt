@@ -1,5 +1,4 @@
 -- `copy` meets its contract: i bytes are copied.
-use Prim.Native.Nat.{◌-◌}
 use borrow.Author.Rules.{rules}
 use Rattle.port.proofs.Removal as L
 use Rattle.port.proofs.marks.copy.Goals as goal

@@ -1,7 +1,5 @@
 -- `find_mark` meets its contract: the place in the whole text is `from` more than that in its rest from there on.
 -- Each turn passes the first `>` behind a `#`, unless the first mark ends there.
-use Prim.Native.Nat.{◌-◌}
-use mathlib.Core.Logic.{⊎_elim}
 use mathlib.Core.Path.{sym, ap, ◌∙◌}
 use native.Mathlib.Omega.{arith}
 use borrow.Author.Rules.{rules}

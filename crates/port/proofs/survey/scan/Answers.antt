@@ -1,7 +1,5 @@
 -- `scan` meets its contract: from anchor to anchor the match and the first places are kept.
-use Prim.Native.Nat.{◌-◌}
 use native.Mathlib.Omega.{arith}
-use mathlib.Core.Logic.{⊎_elim}
 use borrow.Author.Rules.{rules}
 use Rattle.port.proofs.Keeping as L
 use Rattle.port.proofs.survey.scan.Goals as goal
