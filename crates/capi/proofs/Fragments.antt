@@ -1,15 +1,15 @@
 -- Any pieces, fed to a block of zeros: the end's answer is the ordinary reader's on the joined bytes, and the block is zeros again.
 -- It rests on `back`: a collector in order that is laid in a block is the one that the block holds.
-use Prim.Native.Nat.{ℕ, ◌+◌, ◌*◌, ◌/◌, ◌%◌}
+use Prim.Native.Nat.{ℕ, ◌+◌, ◌*◌, ◌/◌}
 use native.Mathlib.Nat.{add-zero, sub-zero}
 use native.Mathlib.Omega.{arith}
 use mathlib.Core.Bool.{Bool, true, false}
 use mathlib.Core.List.{List, [], ◌∷◌, ◌++◌, flatten, foldl}
-use mathlib.Core.Option.{Option, some}
+use mathlib.Core.Option.{some}
 use mathlib.Core.Path.{◌≡◌, refl, sym, ap, subst, ◌∙◌}
 use borrow.Author.Tests.{eq-eqb}
 use lib.Dec.{eqb, leb}
-use lib.ListN.{length, take, get_or, replicate, length-append, replicate-append-replicate}
+use lib.ListN.{length, get_or, replicate, length-append, replicate-append-replicate}
 use lib.Seq.{take_at, get_or-append-add}
 use Rattle.lexis.specs.Text.{Text}
 use Rattle.meaning.specs.Ordinary.{ordinary}

@@ -1,6 +1,6 @@
 -- A collector in a block of bytes that C lends (docs/ABI.md): the room for the bytes so far, their number in two bytes, high byte
 -- first, and the over-full mark, 0 or 1. `size` is the limit of a text, `cap` that of a list.
-use Rattle.std.specs.Prelude.{if◌then◌else◌, ℕ, ◌+◌, ◌*◌, ◌/◌, ◌%◌, Bool, true, false, ◌&&◌, List, [], ◌∷◌, ◌++◌, ◌≡◌, eqb, leb, length, take, get_or}
+use Rattle.std.specs.Prelude.{if◌then◌else◌, ℕ, ◌+◌, ◌*◌, ◌/◌, ◌%◌, Bool, true, ◌&&◌, [], ◌∷◌, ◌++◌, ◌≡◌, eqb, leb, length, take, get_or}
 use Rattle.std.proofs.Math.Option.{Option, none, some}
 use Rattle.lexis.specs.Text.{Text}
 use Rattle.meaning.specs.Ordinary.{refused}

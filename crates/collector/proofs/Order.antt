@@ -5,12 +5,12 @@ use native.Mathlib.Nat.{sub-zero}
 use native.Mathlib.Numerals.{add-one}
 use native.Mathlib.Omega.{arith}
 use mathlib.Core.Bool.{Bool, true, false, ◌&&◌, and_self, and-true, and-false, and_assoc, not, false≢true}
-use mathlib.Core.List.{List, [], ◌∷◌, ◌++◌, append-nil}
+use mathlib.Core.List.{[], ◌∷◌, ◌++◌, append-nil}
 use mathlib.Core.Path.{◌≡◌, refl, sym, ap, ◌∙◌}
 use borrow.Author.Tests.{leb-true, eqb-true, le-leb, lt-leb, eq-eqb, ne_eqb}
 use lib.Dec.{eqb, leb}
-use lib.ListN.{length, take, drop, get_or, set, length-set, replicate, length-replicate, length-append, length-drop, take-append-drop, drop_of_length-le}
-use lib.Seq.{take_all, take-length, length-take-le, drop-drop, paste, paste-zero, paste-suc}
+use lib.ListN.{length, take, drop, get_or, set, length-set, replicate, length-replicate, length-append, length-drop, drop_of_length-le}
+use lib.Seq.{take-length, length-take-le, drop-drop, paste, paste-zero, paste-suc}
 use Rattle.lexis.specs.Text.{Text}
 use Rattle.lexis.proofs.Lists.{view}
 use Rattle.collector.specs.declared.Collector.{Collector}

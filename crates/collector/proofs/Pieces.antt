@@ -3,19 +3,19 @@
 use Rattle.std.specs.Prelude.{if◌then◌else◌}
 use Prim.Native.Nat.{ℕ, ◌-◌, ◌+◌, ◌≤◌, ◌<◌}
 use native.Mathlib.Omega.{arith}
-use mathlib.Core.Bool.{Bool, true, false, false≢true}
+use mathlib.Core.Bool.{Bool, true, false}
 use mathlib.Core.List.{List, [], ◌∷◌, ◌++◌, append_assoc, append-nil, flatten, foldl, foldl-append}
-use mathlib.Core.Path.{◌≡◌, refl, sym, ap, subst, ◌∙◌}
+use mathlib.Core.Path.{◌≡◌, refl, sym, ap, ◌∙◌}
 use borrow.Author.Tests.{leb-true, leb-false, le-leb, lt-leb, eq-eqb}
 use lib.Dec.{leb}
-use lib.ListN.{length, take, drop, replicate, length-append, length-replicate}
+use lib.ListN.{length, replicate, length-append, length-replicate}
 use lib.Seq.{take-append_seam, drop-append_seam}
 use Rattle.lexis.specs.Text.{Text}
 use Rattle.meaning.specs.Ordinary.{ordinary, refused}
 use Rattle.meaning.specs.declared.Refusal.TheVariants.{TooLong}
 use Rattle.collector.specs.declared.Collector.{Collector}
 use Rattle.collector.specs.declared.Fed.TheVariants.{Taken}
-use Rattle.collector.specs.Collecting.{zeros, in_order, Held, holds, over_full, held, laid, fresh, joined, told, fed, answer, answered, ended}
+use Rattle.collector.specs.Collecting.{in_order, Held, holds, over_full, held, laid, fresh, joined, told, fed, answer, answered, ended}
 use Rattle.collector.proofs.Order.{zeros_blank}
 
 module _ (size : ℕ) where

@@ -16,7 +16,7 @@ use Rattle.lexis.specs.Text.{Text}
 use Rattle.meaning.specs.declared.Reading.{Reading}
 use Rattle.collector.specs.declared.Collector.{Collector}
 use Rattle.collector.specs.declared.Fed.{Fed}
-use Rattle.collector.specs.Collecting.{fresh, told, fed, answered, ended}
+use Rattle.collector.specs.Collecting.{told, fed, answered, ended}
 use Rattle.collector.specs.Parts.{of_parts}
 use Rattle.collector.proofs.fresh.Reads as fresh-reads
 use Rattle.collector.proofs.fresh.Kinds as fresh-kinds

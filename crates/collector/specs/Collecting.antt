@@ -1,6 +1,6 @@
 -- Texts in fragments (02, C-13): what a collector holds, when it is in order, what a piece makes of it and what the end answers.
 -- `size` is the limit of a text, `cap` that of a list.
-use Rattle.std.specs.Prelude.{if◌then◌else◌, ℕ, ◌-◌, Bool, true, false, ◌&&◌, List, [], ◌∷◌, ◌++◌, eqb, leb, length, take, drop, replicate}
+use Rattle.std.specs.Prelude.{if◌then◌else◌, ℕ, ◌-◌, Bool, true, false, ◌&&◌, [], ◌∷◌, ◌++◌, eqb, leb, length, take, drop, replicate}
 use Rattle.lexis.specs.Text.{Text}
 use Rattle.meaning.specs.Ordinary.{ordinary, refused}
 use Rattle.meaning.specs.declared.Reading.{Reading}

@@ -9,7 +9,7 @@ ghost use Rattle.std.specs.Prelude.{◌≤◌, IfOk, length};
 use say::{line, say, say_number};
 use sheet::Totals;
 use std::env::Env;
-use std::io::{self, ErrorKind, Input, Print, Read};
+use std::io::{self, Eprint, ErrorKind, Input, Print, Read};
 
 fn defaults<R: Print>(rt: &R, t: Totals) -> io::Result<()> {
     say(rt, b"defaults ")?;
@@ -44,7 +44,7 @@ fn report<R: Print>(rt: &R, t: Totals) -> io::Result<()> {
 }
 
 // What can't be read to its end, such as a folder, has no totals.
-fn unreadable<R: Print>(rt: &R) -> io::Result<()> {
+fn unreadable<R: Eprint>(rt: &R) -> io::Result<()> {
     eprintln!(rt; "typesheet: standard input can't be read")
 }
 
@@ -63,7 +63,7 @@ fn fill<R: Read>(from: &mut R, room: &mut [u8]) -> io::Result<usize>
     Ok(n)
 }
 
-fn run<R: Env + Input + Print>(rt: &R) -> io::Result<()> {
+fn run<R: Env + Eprint + Input + Print>(rt: &R) -> io::Result<()> {
     if !words::ask_for_totals(rt)? {
         return Ok(());
     }

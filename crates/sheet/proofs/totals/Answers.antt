@@ -1,5 +1,4 @@
 -- `totals` meets its contract: the totals so far, with those of the rows from the cut's place on, are the sheet's.
-use Prim.Native.Nat.{◌-◌}
 use borrow.Author.Rules.{rules}
 use Rattle.sheet.proofs.Summing as L
 use Rattle.sheet.proofs.totals.Goals as goal

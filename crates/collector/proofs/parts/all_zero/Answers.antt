@@ -1,5 +1,4 @@
 -- `all_zero` meets its contract: i bytes have been looked at.
-use Prim.Native.Nat.{◌-◌}
 use borrow.Author.Rules.{rules}
 use Rattle.collector.proofs.Order as L
 use Rattle.collector.proofs.parts.all_zero.Goals as goal

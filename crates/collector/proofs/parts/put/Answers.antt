@@ -1,5 +1,4 @@
 -- `put` meets its contract: so many bytes are laid in.
-use Prim.Native.Nat.{◌-◌}
 use borrow.Author.Rules.{rules}
 use Rattle.collector.proofs.Order as L
 use Rattle.collector.proofs.parts.put.Goals as goal
