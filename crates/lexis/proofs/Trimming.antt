@@ -1,13 +1,13 @@
 -- Laws of trimming, over any test of a byte: from the front by the rest of the text, from behind by its beginning.
 use Rattle.std.specs.Prelude.{if◌then◌else◌}
 use mathlib.Core.Path.{◌≡◌, refl, ap, ◌∙◌}
-use mathlib.Core.Bool.{Bool, true, false}
+use mathlib.Core.Bool.{Bool, true, false, ◌||◌}
 use mathlib.Core.List.{List, [], ◌∷◌, ◌++◌}
 use Prim.Native.Nat.{ℕ, suc, ◌+◌, ◌-◌, ◌≤◌, ◌<◌}
 use native.Mathlib.Omega.{arith}
 use lib.ListN.{length, take, drop, get_or, drop_of_length-le}
 use lib.Seq.{take-length}
-use Rattle.lexis.specs.Text.{less_leading, unless_last, less_trailing, white, trim}
+use Rattle.lexis.specs.Text.{Text, some_of, less_leading, unless_last, less_trailing, white, trim}
 use Rattle.lexis.proofs.Lists.{view, behind}
 
 module _ (p : ℕ → Bool) where
@@ -75,3 +75,29 @@ module _ (p : ℕ → Bool) where
 
 pub trim_within : (s : List ℕ) → length (trim s) ≤ length s
 trim_within s = omega (arith, leading_within white s, trailing_within white (less_leading white s))
+
+-- ── for callers: a byte of another test is never trimmed ──
+
+module _ (p q : ℕ → Bool) (apart : (b : ℕ) → p b ≡ true → q b ≡ false) where
+  pub leading_keeps : (s : Text) → some_of q (less_leading p s) ≡ some_of q s
+  leading_keeps [] = refl
+  leading_keeps (b ∷ s) = by (p b) (apart b) (leading_keeps s)
+    where
+      by : (d : Bool) → (d ≡ true → q b ≡ false) → some_of q (less_leading p s) ≡ some_of q s → some_of q (if d then less_leading p s else b ∷ s) ≡ q b || some_of q s
+      by true f e = rw (f refl) e
+      by false f e = refl
+
+  pub trailing_keeps : (s : Text) → some_of q (less_trailing p s) ≡ some_of q s
+  trailing_keeps [] = refl
+  trailing_keeps (b ∷ s) = by (less_trailing p s) (trailing_keeps s)
+    where
+      last_one : (d : Bool) → (d ≡ true → q b ≡ false) → some_of q (if d then [] else b ∷ []) ≡ q b || false
+      last_one true f = rw (f refl)
+      last_one false f = refl
+
+      by : (t : Text) → some_of q t ≡ some_of q s → some_of q (unless_last p b t) ≡ q b || some_of q s
+      by [] e = last_one (p b) (apart b) ∙ ap (λ (d : Bool). q b || d) e
+      by (c ∷ t) e = ap (λ (d : Bool). q b || d) e
+
+pub trim_keeps : (q : ℕ → Bool) → ((b : ℕ) → white b ≡ true → q b ≡ false) → (s : Text) → some_of q (trim s) ≡ some_of q s
+trim_keeps q apart s = trailing_keeps white q apart (less_leading white s) ∙ leading_keeps white q apart s

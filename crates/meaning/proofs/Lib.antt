@@ -8,5 +8,6 @@ pub mod Normality
 pub mod Unique
 pub mod Open
 pub mod Answers
+pub mod WrittenNames
 pub mod Rows
 mod Slips

@@ -2,6 +2,7 @@
 pub mod Numbers
 pub mod Sign
 pub mod Signed
+pub mod NoNumeral
 pub mod Walking
 pub mod Examples
 pub mod Unique
