@@ -21,7 +21,7 @@ use Rattle.meaning.specs.declared.Note.{Note}
 use Rattle.meaning.specs.Decimal.{size, in32}
 use Rattle.meaning.specs.Strict as Form
 use Rattle.meaning.specs.Strict.{◌⊕◌, may, cuda, dims, Name, word, words, scalars, values, scalar_of, entries_of, Form, spell}
-use Rattle.meaning.specs.Meant.{Any, any, each_of, tensor_ok, view_ok, ok, mean, strides_of, meant_pads}
+use Rattle.meaning.specs.Meant.{Any, any, each_of, tensor_ok, view_ok, ok, mean, meant_strides, meant_pads}
 use Rattle.meaning.specs.Parts.{each}
 use Rattle.meaning.specs.Found.{Entry, Clause, stands, Found, unreadable, lacking, fallen, counts, unnoted, made, plain, token, with_attribute}
 use Rattle.meaning.specs.Found as F
@@ -80,7 +80,7 @@ clean l = record { holds = by l; readable = fine l; whole = refl }
     fine [] = refl
     fine (z ∷ l) = let h : fallen (exact l) ≡ 0 = fine l in omega arith
 
-clean_strides : (st : Form.Strides) → Clean (strides_found st) (strides_of st)
+clean_strides : (st : Form.Strides) → Clean (strides_found st) (meant_strides st)
 clean_strides Form.Strides.absent = record { holds = refl; readable = refl; whole = refl }
 clean_strides (Form.Strides.given s c) = clean (map size (values c))
 
@@ -114,13 +114,13 @@ unfolding tile_of
 tile_shown p l e m = clean_made K.Tile e p Absent (clean l) (clean []) (clean []) (clean []) (clean []) (clean []) m
 
 tensor_shown : (t : Form.Tensor) → shown (attach t.marked (Tile.tensor_found (tensor_found t)))
-    ≡ sure (any K.TensorView (scalar_of t.name) false t.marked (map size t.shape) (strides_of t.strides) [] [] [] (pos 0) Absent)
+    ≡ sure (any K.TensorView (scalar_of t.name) false t.marked (map size t.shape) (meant_strides t.strides) [] [] [] (pos 0) Absent)
 unfolding Tile.tensor_found
 tensor_shown t = clean_made K.TensorView (scalar_of t.name) false Absent (clean (map size t.shape)) (clean_strides t.strides) (clean []) (clean []) (clean []) (clean []) t.marked
 
 view_shown : (k : Kind) (v : Form.View) (a u z : List ℤ) → let t = v.tensor in
     shown (attach t.marked (W.view_of k (stands (exact a)) (stands (exact u)) (stands (exact z)) (view_found v)))
-    ≡ sure (any k (scalar_of t.name) false t.marked (map size t.shape) (strides_of t.strides) (entries_of v.tile) a u (get_or z 0 (pos 0)) (meant_pads v.padding))
+    ≡ sure (any k (scalar_of t.name) false t.marked (map size t.shape) (meant_strides t.strides) (entries_of v.tile) a u (get_or z 0 (pos 0)) (meant_pads v.padding))
 unfolding W.view_of
 view_shown k v a u z = clean_made k (scalar_of v.tensor.name) false (meant_pads v.padding) (clean (map size v.tensor.shape)) (clean_strides v.tensor.strides)
     (clean (entries_of v.tile)) (clean a) (clean u) (clean z) v.tensor.marked

@@ -7,7 +7,7 @@ use Rattle.meaning.specs.Strict as S
 use Rattle.scalars.specs.declared.scalar.Scalar.{Scalar}
 use Rattle.meaning.specs.Decimal.{Dim, dim, size, in64}
 use Rattle.meaning.specs.Strict.{◌⊕◌, Commas, comma, commas, values, dims, Name, word, scalar_of, mark, Tensor, Strides, body}
-use Rattle.meaning.specs.Meant.{each_of, tensor_ok, strides_of}
+use Rattle.meaning.specs.Meant.{each_of, tensor_ok, meant_strides}
 use Rattle.grammar.specs.Tests.{and_left, and_right, and_in}
 use Rattle.grammar.specs.Piece.{apart, Piece}
 use Rattle.grammar.specs.Join.{bind, yield, restate}
@@ -54,7 +54,7 @@ abbrev pub rest_text : Both Strides Bool → List ℕ
 rest_text p = S.strides p.left (ends (bytes ">") p.right)
 
 abbrev pub rest_mean : Both Strides Bool → Ended ℤ Bool
-rest_mean p = record { items = strides_of p.left; last = p.right }
+rest_mean p = record { items = meant_strides p.left; last = p.right }
 
 abbrev pub ok0 : Both Strides Bool → Bool
 ok0 p = tensor_ok [] p.left
@@ -217,7 +217,7 @@ abbrev pub body_text : Tensor → List ℕ
 body_text t = body t ⊕ bytes ">"
 
 abbrev pub body_mean : Tensor → Tens
-body_mean t = record { shape = L.map size t.shape; element = scalar_of t.name; strides = strides_of t.strides; attribute = t.marked }
+body_mean t = record { shape = L.map size t.shape; element = scalar_of t.name; strides = meant_strides t.strides; attribute = t.marked }
 
 push5 : (a b c d e f : List ℕ) → (a ++ (b ++ (c ++ (d ++ e)))) ++ f ≡ a ++ (b ++ (c ++ (d ++ (e ++ f))))
 push5 a b c d e f = simp append_assoc

@@ -9,7 +9,7 @@ use Rattle.meaning.specs.declared.Kind.TheVariants as K
 use Rattle.meaning.specs.declared.Padding.TheVariants as P
 use Rattle.meaning.specs.Decimal.{decimal, Dim, size, in32, in64}
 use Rattle.meaning.specs.Strict.{◌⊕◌, Commas, comma, commas, values, Entries, entries, entries_of, word, cuda, Element, Form, spell, View, pad_text, intro_text, body, dims, element}
-use Rattle.meaning.specs.Meant.{each_of, Any, mean, ok, Strict, tile_of, any}
+use Rattle.meaning.specs.Meant.{each_of, Any, mean, ok, Strict, meant_tile, any}
 use Rattle.grammar.specs.Tests.{and_left, and_right, and_in}
 use Rattle.grammar.specs.Piece.{Answer, got, apart, within, Piece, sound, whole}
 use Rattle.grammar.specs.Join.{map, bind, yield, restate}
@@ -133,7 +133,7 @@ walk_spells e c w k p i b c' m =
     ∙ ap (λ (z : List ℕ). glue (e ∷ bytes ")" ∷ c ∷ []) z) (glue_more (bytes "traversal_strides=[" ∷ w ∷ bytes "]" ∷ []) k
     (glue (p ∷ i ∷ bytes "tensor_view<" ∷ b ∷ bytes ">" ∷ c' ∷ bytes "dim_map=[" ∷ m ∷ []) (bytes "]>"))))
 
-tile_mean : (ds : List Dim) (e : Element) → tile_of ds e ≡ tile_any (record { items = L.map size ds; last = core_mean e })
+tile_mean : (ds : List Dim) (e : Element) → meant_tile ds e ≡ tile_any (record { items = L.map size ds; last = core_mean e })
 tile_mean ds (Element.plain n) = refl
 tile_mean ds (Element.pointer p) = refl
 

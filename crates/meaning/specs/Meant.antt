@@ -50,28 +50,28 @@ any k e p a shape strides tile map traversal sparse padding = record {
 -- ── meanings ──
 
 -- the strides may be absent at rank 0 only, meaning none
-abbrev pub strides_of : Strides → List ℤ
-strides_of S.Strides.absent = []
-strides_of (S.Strides.given s c) = map size (values c)
+abbrev pub meant_strides : Strides → List ℤ
+meant_strides S.Strides.absent = []
+meant_strides (S.Strides.given s c) = map size (values c)
 
 abbrev pub meant_pads : Pads → Padding
 meant_pads S.Pads.absent = P.Absent
 meant_pads (S.Pads.given p s) = padding_of p
 
-abbrev pub tile_of : List Dim → Element → Any
-tile_of ds (S.plain n) = any K.Tile (scalar_of n) false false (map size ds) [] [] [] [] (pos 0) P.Absent
-tile_of ds (S.pointer p) = any K.Tile (scalar_of p.name) true p.marked (map size ds) [] [] [] [] (pos 0) P.Absent
+abbrev pub meant_tile : List Dim → Element → Any
+meant_tile ds (S.plain n) = any K.Tile (scalar_of n) false false (map size ds) [] [] [] [] (pos 0) P.Absent
+meant_tile ds (S.pointer p) = any K.Tile (scalar_of p.name) true p.marked (map size ds) [] [] [] [] (pos 0) P.Absent
 
 abbrev pub meant_view : Kind → View → List ℤ → List ℤ → ℤ → Any
 meant_view k v m t z =
-    any k (scalar_of v.tensor.name) false v.tensor.marked (map size v.tensor.shape) (strides_of v.tensor.strides) (entries_of v.tile) m t z (meant_pads v.padding)
+    any k (scalar_of v.tensor.name) false v.tensor.marked (map size v.tensor.shape) (meant_strides v.tensor.strides) (entries_of v.tile) m t z (meant_pads v.padding)
 
 abbrev pub mean : Form → Any
 mean (S.scalar n) = any K.Scalar (scalar_of n) false false [] [] [] [] [] (pos 0) P.Absent
 mean (S.token p) = any K.Token I1 false false [] [] [] [] [] (pos 0) P.Absent
 mean (S.ptr p) = any K.Pointer (scalar_of p.name) false p.marked [] [] [] [] [] (pos 0) P.Absent
-mean (S.tile p ds e) = tile_of ds e
-mean (S.tensor p t) = any K.TensorView (scalar_of t.name) false t.marked (map size t.shape) (strides_of t.strides) [] [] [] (pos 0) P.Absent
+mean (S.tile p ds e) = meant_tile ds e
+mean (S.tensor p t) = any K.TensorView (scalar_of t.name) false t.marked (map size t.shape) (meant_strides t.strides) [] [] [] (pos 0) P.Absent
 mean (S.partition v c) = meant_view K.Partition v (values c) [] (pos 0)
 mean (S.gather v z) = meant_view K.GatherScatter v [] [] z
 mean (S.strided v c s d) = meant_view K.Strided v (values d) (values c) (pos 0)

@@ -28,7 +28,7 @@ use Rattle.meaning.specs.Parts.{each}
 use Rattle.meaning.specs.Normal.{is_zero, all_zero, normal}
 use Rattle.meaning.specs.Strict as S
 use Rattle.meaning.specs.Strict.{Tensor, View, Commas, Form, values, entries_of, scalar_of, spell}
-use Rattle.meaning.specs.Meant.{Any, any, mean, meant_view, strides_of, meant_pads, Strict, flat_any, fits, taken, Judged, accepted}
+use Rattle.meaning.specs.Meant.{Any, any, mean, meant_view, meant_strides, meant_pads, Strict, flat_any, fits, taken, Judged, accepted}
 use Rattle.meaning.specs.Written as W
 use Rattle.meaning.specs.Written.{first, pads_of, dimension_of, listed, form_as, form, written, tensor_of, view_of, tensor_in, view_in, shape_in, strides_in}
 use Rattle.meaning.specs.Written.{tile_in, map_in, traversal_in}
@@ -99,7 +99,7 @@ record TensorSays (e : Scalar) (m : Bool) (ds zs : List ℤ) (t : Tensor) : Type
   pub name : scalar_of t.name ≡ e
   pub marked : t.marked ≡ m
   pub shape : map size t.shape ≡ ds
-  pub strides : strides_of t.strides ≡ zs
+  pub strides : meant_strides t.strides ≡ zs
 
 tensor_says : (e : Scalar) (m : Bool) (ds zs : List ℤ) → When (TensorSays e m ds zs) (tensor_of e m ds zs)
 tensor_says e m [] [] = record { name = scalar_back e; marked = refl; shape = refl; strides = refl }
