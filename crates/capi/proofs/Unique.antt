@@ -38,7 +38,7 @@ typetext_totals_one κs a x y s t p q = p ∙ sym q
 pub typetext_next_row_one : One typetext-next-row.Post
 typetext_next_row_one κs a x y s t p q = p ∙ sym q
 
--- of a function that is proved by hand the check generates the clause alone: it is this fact
+-- of the call that is lent a record and a room: the clause that the check generates is this fact
 abbrev pub Wrote : (κs : Lfts 2) → ArgsD typetext-write.signature κs → ResD typetext-write.signature κs → AtExit typetext-write.ended κs → Type 0
 Wrote κs a w s = outcome w s.1.0.now ≡ write_numbers a.0.now a.1.0.now
 

@@ -45,7 +45,7 @@ feed_parts_one κs a x y s t p q = both p q
 pub end_parts_one : Alike {A = Reading × Collector} end-parts.Post (λ κs r s. (r, of_parts s.0.now s.1.0.now s.1.1.0.now))
 end_parts_one κs a x y s t p q = both p q
 
--- ── the collector, lent: of a function that is proved by hand the check generates the clause alone ──
+-- ── the collector, lent: the clause that the check generates is the fact that stands here ──
 
 -- what a piece does to a collector
 abbrev pub Feeds : Collector → Text → Fed → Collector → Type 0

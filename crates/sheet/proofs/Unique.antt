@@ -1,5 +1,5 @@
 -- Each public call's contract leaves one answer: two that meet what the check generated from it are equal.
--- A row is compared by what it holds. Of the functions over a walker, which are proved by hand, the check generates the clause alone.
+-- A row is compared by what it holds. Of the functions over a walker the clause that the check generates is laid beside a fact.
 use Prim.Native.Nat.{ℕ}
 use mathlib.Core.List.{List}
 use mathlib.Core.Path.{◌≡◌, refl, sym, ap, ◌∙◌}
