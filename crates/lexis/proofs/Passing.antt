@@ -1,40 +1,19 @@
 -- Laws of blocks: one byte more is looked at, and a block without a hit is passed over.
-use Rattle.std.specs.Prelude.{if◌then◌else◌}
+use Rattle.std.specs.Prelude.{if◌then◌else◌, Option, None, Some}
 use mathlib.Core.Path.{◌≡◌, refl, sym, ap, ◌∙◌}
 use mathlib.Core.Bool.{Bool, true, false, ◌&&◌, ◌||◌}
-use mathlib.Core.Option.{Option, none, some}
 use mathlib.Core.List.{List, [], ◌∷◌}
 use Prim.Native.Nat.{ℕ, zero, suc, ◌+◌, ◌-◌, ◌≤◌, ◌<◌}
 use native.Mathlib.Nat.{add-zero}
-use native.Mathlib.Numerals.{add-one}
 use native.Mathlib.Omega.{arith}
 use lib.Dec.{eqb}
 use lib.ListN.{length, take, drop, get_or, length-drop, drop_of_length-le}
 use lib.Seq.{drop-drop, get_or-drop}
 use Rattle.lexis.specs.Text.{begins, Cut, nowhere, at, later, cut, place, some_of, until}
-use Rattle.lexis.proofs.Lists.{view}
+use Rattle.lexis.proofs.Lists.{view, rest}
 use Rattle.lexis.proofs.Seeking.{never, shifted, miss, until_within}
 
 module _ (p : ℕ → Bool) where
-  or_last : (a b c : Bool) → a || (b || c) ≡ (a || b) || c
-  or_last true b c = refl
-  or_last false b c = refl
-
-  or_false : (a : Bool) → a || false ≡ false || a
-  or_false true = refl
-  or_false false = refl
-
-  one_more : (l : List ℕ) (j : ℕ) → j < length l → some_of p (take (suc j) l) ≡ some_of p (take j l) || p (get_or l j 0)
-  one_more [] j h = let f : ⊥ = omega arith in absurd f
-  one_more (x ∷ l) zero h = or_false (p x)
-  one_more (x ∷ l) (suc j) h = ap (λ (z : Bool). p x || z) (one_more l j (omega arith)) ∙ or_last (p x) (some_of p (take j l)) (p (get_or l j 0))
-
-  -- with one byte more
-  pub grown : (s : List ℕ) (m j : ℕ) → m + j < length s → some_of p (take (j + 1) (drop m s)) ≡ some_of p (take j (drop m s)) || p (get_or s (m + j) 0)
-  grown s m j h = ap (λ (n : ℕ). some_of p (take n (drop m s))) (add-one j)
-      ∙ one_more (drop m s) j (let l = length-drop m s in omega arith)
-      ∙ ap (λ (c : ℕ). some_of p (take j (drop m s)) || p c) (get_or-drop m s j 0)
-
   skip : (k : ℕ) (l : List ℕ) → k ≤ length l → some_of p (take k l) ≡ false → length (until p l) ≡ k + length (until p (drop k l))
   skip zero l h e = omega arith
   skip (suc k) [] h e = let f : ⊥ = omega arith in absurd f
@@ -78,15 +57,19 @@ module _ (p : ℕ → Bool) where
       ∙ ap (λ (t : List ℕ). n + length (until p t)) (drop_of_length-le s {i = n} (omega arith))
       ∙ add-zero n
 
+-- what is passed of the rest of a text
+pub rest_within : (p : ℕ → Bool) (s : List ℕ) (i : ℕ) → length (until p (take (length s - i) (drop i s))) ≤ length s - i
+rest_within p s i = let a = until_within p (take (length s - i) (drop i s)) in let b = ap length (rest s i) in let c = length-drop i s in omega arith
+
 -- ── a byte of a text is sought before the text ──
 
 pub shifted_twice : (i j : ℕ) (o : Option ℕ) → shifted i (shifted j o) ≡ shifted (i + j) o
-shifted_twice i j none = refl
-shifted_twice i j (some n) = ap some (omega arith)
+shifted_twice i j None = refl
+shifted_twice i j (Some n) = ap Some (omega arith)
 
 pub one_later : (b : ℕ) (c : Cut) → place (later b c) ≡ shifted 1 (place c)
 one_later b nowhere = refl
-one_later b (at u t) = ap some (omega arith)
+one_later b (at u t) = ap Some (omega arith)
 
 -- no text stands where it differs by a byte
 byte_off : (p l : List ℕ) (k : ℕ) → k < length p → k < length l → eqb (get_or p k 0) (get_or l k 0) ≡ false → begins p l ≡ false

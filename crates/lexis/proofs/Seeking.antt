@@ -1,9 +1,9 @@
 -- Laws of seeking: equality, prefixes, the first place of a text in a text, what stands before a byte.
-use Rattle.std.specs.Prelude.{if◌then◌else◌}
+use Rattle.std.specs.Prelude.{if◌then◌else◌, nat_eq, Option, None, Some}
+use Rattle.std.specs.Cmp.Lexicographic.{pointwise}
 use mathlib.Core.Path.{◌≡◌, refl, sym, ap, ◌∙◌}
 use mathlib.Core.Bool.{Bool, true, false, ◌&&◌, false≢true}
 use mathlib.Core.List.{List, [], ◌∷◌}
-use mathlib.Core.Option.{Option, none, some}
 use Prim.Native.Nat.{ℕ, zero, suc, ◌+◌, ◌≤◌, ◌<◌}
 use native.Mathlib.Nat.{zero-add, add-zero, suc-add}
 use native.Mathlib.Omega.{arith}
@@ -28,6 +28,12 @@ module _ (p s : List ℕ) (j k : ℕ) (h : j < length p) where
 
 pub all_passed : (p t : List ℕ) (j : ℕ) → length p ≤ j → begins (drop j p) t ≡ true
 all_passed p t j l = rw (drop_of_length-le p l)
+
+-- the library's test of a beginning
+pub starts : (p s : List ℕ) → pointwise nat_eq p (take (length p) s) ≡ begins p s
+starts [] s = refl
+starts (c ∷ p) [] = refl
+starts (c ∷ p) (b ∷ s) = ap (λ (d : Bool). nat_eq c b && d) (starts p s)
 
 -- ── equality ──
 
@@ -58,42 +64,42 @@ alike (x ∷ s) (y ∷ t) e = ap (λ (d : Bool). eqb x y && d) (alike s t (omega
 
 -- a place in the rest from i on, as one in the whole
 abbrev pub shifted : ℕ → Option ℕ → Option ℕ
-shifted i none = none
-shifted i (some n) = some (i + n)
+shifted i None = None
+shifted i (Some n) = Some (i + n)
 
 pub unshifted : (o : Option ℕ) → o ≡ shifted 0 o
-unshifted none = refl
-unshifted (some n) = ap some (sym (zero-add n))
+unshifted None = refl
+unshifted (Some n) = ap Some (sym (zero-add n))
 
 further : (b i : ℕ) (c : Cut) → shifted i (place (later b c)) ≡ shifted (i + 1) (place c)
 further b i nowhere = refl
-further b i (at u t) = ap some (omega arith)
+further b i (at u t) = ap Some (omega arith)
 
-here : (p t : List ℕ) → begins p t ≡ true → place (cut p t) ≡ some 0
+here : (p t : List ℕ) → begins p t ≡ true → place (cut p t) ≡ Some 0
 here p [] e = rw e
 here p (b ∷ t) e = rw e
 
 module _ (p s : List ℕ) (i : ℕ) where
-  pub hit : begins p (drop i s) ≡ true → shifted i (place (cut p (drop i s))) ≡ some i
-  hit e = ap (shifted i) (here p (drop i s) e) ∙ ap some (add-zero i)
+  pub hit : begins p (drop i s) ≡ true → shifted i (place (cut p (drop i s))) ≡ Some i
+  hit e = ap (shifted i) (here p (drop i s) e) ∙ ap Some (add-zero i)
 
   pub miss : i < length s → begins p (drop i s) ≡ false
       → shifted i (place (cut p (drop i s))) ≡ shifted (i + 1) (place (cut p (drop (i + 1) s)))
   miss h e = rw (view s i h) (rw (rw (view s i h) at e) (further (get_or s i 0) i (cut p (drop (i + 1) s))))
 
-  pub gone : length s ≤ i → begins p (drop i s) ≡ false → shifted i (place (cut p (drop i s))) ≡ none
+  pub gone : length s ≤ i → begins p (drop i s) ≡ false → shifted i (place (cut p (drop i s))) ≡ None
   gone h e = rw (drop_of_length-le s h) (rw (rw (drop_of_length-le s h) at e))
 
-pub nothing_sought : (p s : List ℕ) → length p ≡ 0 → some 0 ≡ place (cut p s)
+pub nothing_sought : (p s : List ℕ) → length p ≡ 0 → Some 0 ≡ place (cut p s)
 nothing_sought [] s z = sym (here [] s refl)
 nothing_sought (c ∷ p) s z = let f : ⊥ = omega arith in absurd f
 
 -- a place that is told is found, and none is not
-pub told : (c : Cut) {n : ℕ} → place c ≡ some n → found c ≡ true
+pub told : (c : Cut) {n : ℕ} → place c ≡ Some n → found c ≡ true
 told nowhere e = let z : ◌≡◌ {A = ℕ} 0 1 = cc in let f : ⊥ = omega arith in absurd f
 told (at u t) e = refl
 
-pub untold : (c : Cut) → place c ≡ none → found c ≡ false
+pub untold : (c : Cut) → place c ≡ None → found c ≡ false
 untold nowhere e = refl
 untold (at u t) e = let z : ◌≡◌ {A = ℕ} 0 1 = cc in let f : ⊥ = omega arith in absurd f
 
@@ -150,11 +156,11 @@ too_short p s h = by (begins p s) (begins_within p s)
     by true f = let g = f refl in let z : ⊥ = omega arith in absurd z
     by false f = refl
 
-pub nowhere_short : (p s : List ℕ) → length s < length p → place (cut p s) ≡ none
+pub nowhere_short : (p s : List ℕ) → length s < length p → place (cut p s) ≡ None
 nowhere_short p [] h = rw (too_short p [] h)
 nowhere_short p (b ∷ s) h = rw (too_short p (b ∷ s) h) (by (cut p s) (nowhere_short p s (omega arith)))
   where
-    by : (c : Cut) → place c ≡ none → place (later b c) ≡ none
+    by : (c : Cut) → place c ≡ None → place (later b c) ≡ None
     by nowhere e = refl
     by (at u t) e = let z : ◌≡◌ {A = ℕ} 0 1 = cc in let f : ⊥ = omega arith in absurd f
 
@@ -196,10 +202,10 @@ reach p (b ∷ s) = by (begins p (b ∷ s)) (begins_within p (b ∷ s)) (after_d
     by false h g r = onward p s b (cut p s) r
 
 module _ (p s : List ℕ) (i : ℕ) where
-  pub cut_at : place (cut p s) ≡ some i → cut p s ≡ at (take i s) (drop (i + length p) s)
+  pub cut_at : place (cut p s) ≡ Some i → cut p s ≡ at (take i s) (drop (i + length p) s)
   cut_at e = by (cut p s) (reach p s) e
     where
-      by : (c : Cut) → Reach p s c → place c ≡ some i → c ≡ at (take i s) (drop (i + length p) s)
+      by : (c : Cut) → Reach p s c → place c ≡ Some i → c ≡ at (take i s) (drop (i + length p) s)
       by nowhere r e = let z : ◌≡◌ {A = ℕ} 0 1 = cc in let f : ⊥ = omega arith in absurd f
       by (at u t) r e =
           let k : length u ≡ i = cc in
@@ -207,16 +213,16 @@ module _ (p s : List ℕ) (i : ℕ) where
           let g : t ≡ drop (i + length p) s = r.back ∙ ap (λ (n : ℕ). drop (n + length p) s) k in
           λ j. at (f j) (g j)
 
-  pub cut_within : place (cut p s) ≡ some i → i + length p ≤ length s
+  pub cut_within : place (cut p s) ≡ Some i → i + length p ≤ length s
   cut_within e = by (cut p s) (reach p s) e
     where
-      by : (c : Cut) → Reach p s c → place c ≡ some i → i + length p ≤ length s
+      by : (c : Cut) → Reach p s c → place c ≡ Some i → i + length p ≤ length s
       by nowhere r e = let z : ◌≡◌ {A = ℕ} 0 1 = cc in let f : ⊥ = omega arith in absurd f
       by (at u t) r e = let k : length u ≡ i = cc in omega (arith, r.room)
 
-pub cut_nowhere : (p s : List ℕ) → place (cut p s) ≡ none → cut p s ≡ nowhere
+pub cut_nowhere : (p s : List ℕ) → place (cut p s) ≡ None → cut p s ≡ nowhere
 cut_nowhere p s e = by (cut p s) e
   where
-    by : (c : Cut) → place c ≡ none → c ≡ nowhere
+    by : (c : Cut) → place c ≡ None → c ≡ nowhere
     by nowhere e = refl
     by (at u t) e = let z : ◌≡◌ {A = ℕ} 0 1 = cc in let f : ⊥ = omega arith in absurd f

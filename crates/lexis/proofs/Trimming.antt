@@ -1,28 +1,14 @@
--- Laws of trimming, over any test of a byte: from the front by the rest of the text, from behind by its beginning.
+-- Laws of trimming, over any test of a byte: from behind the last byte decides.
 use Rattle.std.specs.Prelude.{if◌then◌else◌}
 use mathlib.Core.Path.{◌≡◌, refl, ap, ◌∙◌}
 use mathlib.Core.Bool.{Bool, true, false, ◌||◌}
 use mathlib.Core.List.{List, [], ◌∷◌, ◌++◌}
-use Prim.Native.Nat.{ℕ, suc, ◌+◌, ◌-◌, ◌≤◌, ◌<◌}
+use Prim.Native.Nat.{ℕ, suc, ◌≤◌}
 use native.Mathlib.Omega.{arith}
-use lib.ListN.{length, take, drop, get_or, drop_of_length-le}
-use lib.Seq.{take-length}
+use lib.ListN.{length}
 use Rattle.lexis.specs.Text.{Text, some_of, less_leading, unless_last, less_trailing, white, trim}
-use Rattle.lexis.proofs.Lists.{view, behind}
 
 module _ (p : ℕ → Bool) where
-  -- ── from the front ──
-
-  module _ (s : List ℕ) (i : ℕ) where
-    pub start_step : i < length s → p (get_or s i 0) ≡ true → less_leading p (drop i s) ≡ less_leading p (drop (i + 1) s)
-    start_step h e = rw (view s i h, e)
-
-    pub start_stop : i < length s → p (get_or s i 0) ≡ false → less_leading p (drop i s) ≡ drop i s
-    start_stop h e = rw (view s i h, e)
-
-    pub start_end : length s ≤ i → less_leading p (drop i s) ≡ drop i s
-    start_end h = rw (drop_of_length-le s h)
-
   -- ── from behind ──
 
   kept : (a b : ℕ) (t : List ℕ) → unless_last p a (t ++ b ∷ []) ≡ a ∷ t ++ b ∷ []
@@ -38,18 +24,11 @@ module _ (p : ℕ → Bool) where
       by true = refl
       by false = kept a b t
 
-  module _ (s : List ℕ) (e : ℕ) where
-    pub end_step : 0 < e → e ≤ length s → p (get_or s (e - 1) 0) ≡ true → less_trailing p (take e s) ≡ less_trailing p (take (e - 1) s)
-    end_step n h t = rw (behind s e n h) (last (take (e - 1) s) (get_or s (e - 1) 0) ∙ rw t)
+  pub last_goes : (t : List ℕ) (b : ℕ) → p b ≡ true → less_trailing p (t ++ b ∷ []) ≡ less_trailing p t
+  last_goes t b e = last t b ∙ rw e
 
-    pub end_stop : 0 < e → e ≤ length s → p (get_or s (e - 1) 0) ≡ false → less_trailing p (take e s) ≡ take e s
-    end_stop n h t = rw (behind s e n h) (last (take (e - 1) s) (get_or s (e - 1) 0) ∙ rw t)
-
-    pub end_none : e ≤ 0 → less_trailing p (take e s) ≡ take e s
-    end_none h = let z : e ≡ 0 = omega arith in rw z
-
-  pub whole : (s : List ℕ) → less_trailing p s ≡ less_trailing p (take (length s) s)
-  whole s = rw take-length
+  pub last_stays : (t : List ℕ) (b : ℕ) → p b ≡ false → less_trailing p (t ++ b ∷ []) ≡ t ++ b ∷ []
+  last_stays t b e = last t b ∙ rw e
 
   -- ── for callers: trimming never makes a text longer ──
 

@@ -1,20 +1,18 @@
 -- Each public function's contract leaves one answer: two answers that meet the generated reading of it, for the same arguments, are the same.
--- A returned slice is compared by what it holds; an answer read through `spot` by its cases.
-use mathlib.Core.Path.{◌≡◌, refl, sym, ap, ◌∙◌}
-use Prim.Native.Nat.{ℕ}
-use native.Mathlib.Omega.{arith}
-use Rattle.lexis.specs.Text.{spot}
-use Rattle.lexis.specs.declared.text.Found.{Found}
-use Rattle.lexis.specs.declared.text.Found.TheVariants.{At, Nowhere}
+-- A returned slice is compared by what it holds.
+use mathlib.Core.Path.{◌≡◌, sym, ◌∙◌}
+use denote.RattleType.{RattleType}
+use denote.Param.Laws.{Laws, IsCopy}
+use mir.Syntax.{Dict}
+use Rattle.std.specs.declared.clone.Clone as Clone
+use Rattle.lexis.specs.declared.pattern.Pattern as Pattern
 use Rattle.lexis.proofs.blocks.seek.Reads as seek
-use Rattle.lexis.proofs.blocks.seek_outside.Reads as seek-outside
 use Rattle.lexis.proofs.text.same.Reads as same
 use Rattle.lexis.proofs.text.begins.Reads as begins
 use Rattle.lexis.proofs.text.find.Reads as find
 use Rattle.lexis.proofs.text.find_by.Reads as find-by
 use Rattle.lexis.proofs.text.contains.Reads as contains
 use Rattle.lexis.proofs.text.until.Reads as until
-use Rattle.lexis.proofs.text.white.Reads as white
 use Rattle.lexis.proofs.text.trim.Reads as trim
 use Rattle.lexis.proofs.text.trim_start_matches.Reads as trim-start-matches
 use Rattle.lexis.proofs.text.trim_end_matches.Reads as trim-end-matches
@@ -44,39 +42,28 @@ same_one κs a x y s t p q = p ∙ sym q
 pub contains_one : One contains.Post
 contains_one κs a x y s t p q = p ∙ sym q
 
-pub until_one : One until.Post
-until_one κs a x y s t p q = p ∙ sym q
+pub find_one : One find.Post
+find_one κs a x y s t p q = p ∙ sym q
 
-pub seek_one : One seek.Post
-seek_one κs a x y s t p q = p ∙ sym q
-
-pub seek_outside_one : One seek-outside.Post
-seek_outside_one κs a x y s t p q = p ∙ sym q
-
-pub white_one : One white.Post
-white_one κs a x y s t p q = p ∙ sym q
+pub find_by_one : One find-by.Post
+find_by_one κs a x y s t p q = p ∙ sym q
 
 -- ── returned slices ──
 
 pub trim_one : Alike (λ κs x. x.now) trim.Post
 trim_one κs a x y s t p q = p ∙ sym q
 
-pub trim_start_matches_one : Alike (λ κs x. x.now) trim-start-matches.Post
-trim_start_matches_one κs a x y s t p q = p ∙ sym q
+-- ── for every pattern ──
 
-pub trim_end_matches_one : Alike (λ κs x. x.now) trim-end-matches.Post
-trim_end_matches_one κs a x y s t p q = p ∙ sym q
+module _ (T : RattleType) (laws : Laws T) (copy : IsCopy T) (pattern : Pattern.Ghosts T.Denot) (d : Dict) (clone : Clone.Ghosts T.Denot) (e : Dict) where
+  pub seek_one : One (seek.Post T laws copy pattern d clone e)
+  seek_one κs a x y s t p q = p ∙ sym q
 
--- ── answers read through a function of their cases ──
+  pub until_one : One (until.Post T laws copy pattern d clone e)
+  until_one κs a x y s t p q = p ∙ sym q
 
-pub spot_one : (f g : Found) → spot f ≡ spot g → f ≡ g
-spot_one (At n) (At m) e = let k : n ≡ m = cc in ap At k
-spot_one (At n) Nowhere e = let z : ◌≡◌ {A = ℕ} 0 1 = cc in let f : ⊥ = omega arith in absurd f
-spot_one Nowhere (At m) e = let z : ◌≡◌ {A = ℕ} 0 1 = cc in let f : ⊥ = omega arith in absurd f
-spot_one Nowhere Nowhere e = refl
+  pub trim_start_matches_one : Alike (λ κs x. x.now) (trim-start-matches.Post T laws copy pattern d clone e)
+  trim_start_matches_one κs a x y s t p q = p ∙ sym q
 
-pub find_one : One find.Post
-find_one κs a x y s t p q = spot_one x y (p ∙ sym q)
-
-pub find_by_one : One find-by.Post
-find_by_one κs a x y s t p q = spot_one x y (p ∙ sym q)
+  pub trim_end_matches_one : Alike (λ κs x. x.now) (trim-end-matches.Post T laws copy pattern d clone e)
+  trim_end_matches_one κs a x y s t p q = p ∙ sym q

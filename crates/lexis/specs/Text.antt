@@ -1,11 +1,8 @@
 -- Texts as lists of bytes: quoting, choosing, seeking, trimming (01, modules 1 and 3 to 7 lean on these).
-use Rattle.std.specs.Prelude.{if◌then◌else◌, ℕ, Bool, true, false, ◌&&◌, ◌||◌, List, [], ◌∷◌, leb, ltb, eqb, length}
+use Rattle.std.specs.Prelude.{if◌then◌else◌, ℕ, Bool, true, false, ◌&&◌, ◌||◌, List, [], ◌∷◌, not, leb, ltb, eqb, length, Option, None, Some}
 use Prim.Native.Char.{code}
 use Prim.Native.String as S
 use Prim.Native.String.{String}
-use Rattle.std.proofs.Math.Option.{Option, none, some}
-use Rattle.lexis.specs.declared.text.Found.{Found}
-use Rattle.lexis.specs.declared.text.Found.TheVariants.{At, Nowhere}
 
 abbrev pub Text : Type 0
 Text = List ℕ
@@ -57,13 +54,8 @@ found (at u t) = true
 
 -- the place at which a text is parted
 abbrev pub place : Cut → Option ℕ
-place nowhere = none
-place (at u t) = some (length u)
-
--- what the seeker's answer says
-abbrev pub spot : Found → Option ℕ
-spot (At n) = some n
-spot Nowhere = none
+place nowhere = None
+place (at u t) = Some (length u)
 
 abbrev pub occurs : Text → Text → Bool
 occurs p s = found (cut p s)
@@ -113,6 +105,10 @@ less_trailing p (b ∷ s) = unless_last p b (less_trailing p s)
 -- bytes 9 to 13 and 32 (01, module 1)
 abbrev pub white : ℕ → Bool
 white b = (leb 9 b && leb b 13) || eqb b 32
+
+-- a byte that isn't white
+abbrev pub ink : ℕ → Bool
+ink b = not (white b)
 
 abbrev pub trim : Text → Text
 trim s = less_trailing white (less_leading white s)

@@ -2,10 +2,11 @@
 #![tactic(auto)]
 
 mod blocks;
+mod pattern;
 mod text;
 
-pub use blocks::{seek, seek_outside};
+pub use blocks::seek;
+pub use pattern::{Ink, Outside, Pattern, White};
 pub use text::{
-    Found, begins, contains, find, find_by, same, trim, trim_end_matches, trim_start_matches,
-    until, white,
+    begins, contains, find, find_by, same, trim, trim_end_matches, trim_start_matches, until,
 };

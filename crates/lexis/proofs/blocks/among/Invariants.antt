@@ -1,13 +1,7 @@
--- `among` meets its contract: j bytes of the block have been looked at.
+-- `among` meets its contract: the bytes before the index have been looked at.
+use Rattle.std.proofs.Common.{◌≡◌, ◌≤◌, length, take}
 use Rattle.lexis.specs.Text.{some_of}
-use lib.Dec.{eqb}
-use lib.ListN.{take, drop}
-use Prim.Native.Nat.{◌-◌, ◌≤◌}
-use mathlib.Core.Path.{◌≡◌}
 use Rattle.lexis.proofs.blocks.among.Given as goal
 
-abbrev pub invariant-loop-j : goal.invariant-loop-j
-invariant-loop-j l = (l.j ≤ 16) × (l.hit ≡ some_of (eqb l.b) (take l.j (drop l.at l.text)))
-
-abbrev pub decreases-loop-j : goal.decreases-loop-j
-decreases-loop-j l = 16 - l.j
+abbrev pub invariant-loop-b : goal.invariant-loop-b
+invariant-loop-b g l = (l.b-index ≤ length l.block) × (l.hit ≡ some_of (g.P.Pattern.matches l.p) (take l.b-index l.block))

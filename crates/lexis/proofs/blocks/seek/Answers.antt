@@ -1,40 +1,26 @@
--- `seek` meets its contract: i bytes are passed, first by blocks without a hit, then one by one,
--- if the last sixteen bytes have a hit.
+-- `seek` meets its contract: the bytes up to i are passed, by blocks without a hit; and none is left where the last block has no hit.
+use Rattle.std.proofs.Common.{rules, arith, sym, ◌∙◌, ap, ◌+◌, ◌-◌, ◌≡◌, ℕ, length, take, drop}
+use Rattle.lexis.specs.Text.{some_of}
 use Rattle.lexis.proofs.Passing as L
-use Rattle.lexis.proofs.Seeking as S
-use borrow.Author.Tests.{eq-eqb, ne_eqb}
-use lib.Dec.{eqb}
-use mathlib.Core.Path.{sym, ◌∙◌}
-use borrow.Author.Rules.{rules}
 use Rattle.lexis.proofs.blocks.seek.Goals as goal
 
 pub returns-then-not-among : goal.returns-then-not-among
-returns-then-not-among c =
+returns-then-not-among g c =
     let l = c.loop-i in
-    let a = c.args in
-    sym (l.invariant ∙ L.none_left (eqb a.b) a.text.now l.i 16 (search rules) (search rules) (search rules)
-    (sym c.among.ensures ∙ c.if-not-among.true))
+    let t = c.args.text.now in
+    let p = g.P.Pattern.matches c.args.p in
+    let e : 16 ≡ length t - (length t - 16) = omega arith in
+    sym (l.invariant ∙ L.none_left p t l.i 16 (search rules) (search rules) (search rules)
+    (ap (λ (n : ℕ). some_of p (take n (drop (length t - 16) t))) e ∙ sym c.among.ensures ∙ c.if-not-among.true))
+
+pub overflow_add-result : goal.overflow_add-result
+overflow_add-result g c = let t = c.args.text.now in omega (arith, L.rest_within (g.P.Pattern.matches c.args.p) t c.loop-i.i)
 
 pub loop-i-preserved : goal.loop-i-preserved
-loop-i-preserved c =
-    let l = c.loop-i in
-    let a = c.args in
-    l.invariant ∙ L.passed (eqb a.b) a.text.now l.i 16 (search rules) (sym c.among-in-loop-i.ensures ∙ c.if-among.false)
-
-pub loop-i-2-preserved : goal.loop-i-2-preserved
-loop-i-2-preserved c =
-    let l = c.loop-i-2 in
-    let a = c.args in
-    l.invariant ∙ S.until_step (eqb a.b) a.text.now l.i (search rules) (ne_eqb _ _ (search rules))
-
-pub returns-after-loop-i-2 : goal.returns-after-loop-i-2
-returns-after-loop-i-2 c =
-    let l = c.loop-i-2 in
-    let a = c.args in
-    sym (l.invariant ∙ S.until_end (eqb a.b) a.text.now l.i (search rules))
-
-pub returns-then-b-text : goal.returns-then-b-text
-returns-then-b-text c =
-    let l = c.loop-i-2 in
-    let a = c.args in
-    sym (l.invariant ∙ S.until_stop (eqb a.b) a.text.now l.i (search rules) (eq-eqb _ _ c.if-b-text.true))
+loop-i-preserved g c =
+    let i = c.loop-i.i in
+    let t = c.args.text.now in
+    let p = g.P.Pattern.matches c.args.p in
+    let e : 16 ≡ i + 16 - i = omega arith in
+    c.loop-i.invariant ∙ L.passed p t i 16 (search rules)
+    (ap (λ (n : ℕ). some_of p (take n (drop i t))) e ∙ sym c.among-in-loop-i.ensures ∙ c.if-among.false)

@@ -1,20 +1,10 @@
--- `seek` meets its contract: i bytes are passed, first by blocks without a hit, then one by one,
--- if the last sixteen bytes have a hit.
-use Rattle.lexis.specs.Text as T
-use lib.Dec.{eqb}
-use lib.ListN.{length, drop}
-use Prim.Native.Nat.{◌+◌, ◌-◌}
-use mathlib.Core.Path.{◌≡◌}
+-- `seek` meets its contract: the bytes up to i are passed, by blocks without a hit.
+use Rattle.std.proofs.Common.{◌≡◌, ◌+◌, ◌-◌, drop, length}
+use Rattle.lexis.specs.Text.{until}
 use Rattle.lexis.proofs.blocks.seek.Given as goal
 
 abbrev pub invariant-loop-i : goal.invariant-loop-i
-invariant-loop-i l = l.from + length (T.until (eqb l.b) (drop l.from l.text)) ≡ l.i + length (T.until (eqb l.b) (drop l.i l.text))
+invariant-loop-i g l = let p = g.P.Pattern.matches l.p in l.from + length (until p (drop l.from l.text)) ≡ l.i + length (until p (drop l.i l.text))
 
 abbrev pub decreases-loop-i : goal.decreases-loop-i
-decreases-loop-i l = length l.text - l.i
-
-abbrev pub invariant-loop-i-2 : goal.invariant-loop-i-2
-invariant-loop-i-2 l = l.from + length (T.until (eqb l.b) (drop l.from l.text)) ≡ l.i + length (T.until (eqb l.b) (drop l.i l.text))
-
-abbrev pub decreases-loop-i-2 : goal.decreases-loop-i-2
-decreases-loop-i-2 l = length l.text - l.i
+decreases-loop-i g l = length l.text - l.i

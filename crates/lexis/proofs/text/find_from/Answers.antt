@@ -2,7 +2,8 @@
 -- From a place where the text doesn't stand to the next where its byte k does, nothing is passed over.
 use Rattle.lexis.proofs.Seeking as L
 use Rattle.lexis.proofs.Passing as P
-use Rattle.lexis.specs.Text.{cut, place}
+use Rattle.lexis.proofs.Lists.{rest}
+use Rattle.lexis.specs.Text.{begins, cut, place}
 use lib.ListN.{drop, length-drop}
 use Prim.Native.Nat.{◌-◌, ◌+◌}
 use native.Mathlib.Nat.{zero-add}
@@ -20,8 +21,9 @@ loop-i-init c =
           ∙ P.sought a.what.now a.text.now a.k c.requires 0 a.k _ (zero-add a.k) e,
     )
 
-pub returns-then-stands : goal.returns-then-stands
-returns-then-stands c = let l = c.loop-i in sym (l.invariant.1 ∙ L.hit _ _ _ (sym c.stands.ensures ∙ c.if-stands.true))
+pub returns-then-begins : goal.returns-then-begins
+returns-then-begins c = let l = c.loop-i in let a = c.args in
+    sym (l.invariant.1 ∙ L.hit a.what.now a.text.now (l.i - a.k) (ap (begins a.what.now) (sym (rest a.text.now (l.i - a.k))) ∙ sym c.begins.ensures ∙ c.if-begins.true))
 
 pub loop-i-smaller : goal.loop-i-smaller
 loop-i-smaller c =
@@ -37,7 +39,8 @@ loop-i-preserved c =
     let e = c.seek-i-in-loop-i.ensures in
     let k = l.invariant.0 in (
       omega arith,
-      l.invariant.1 ∙ L.miss a.what.now a.text.now (l.i - a.k) (search rules) (sym c.stands.ensures ∙ c.if-stands.false)
+      l.invariant.1 ∙ L.miss a.what.now a.text.now (l.i - a.k) (search rules)
+          (ap (begins a.what.now) (sym (rest a.text.now (l.i - a.k))) ∙ sym c.begins.ensures ∙ c.if-begins.false)
           ∙ P.sought a.what.now a.text.now a.k h (l.i - a.k + 1) (l.i + 1) _ (omega arith) e,
     )
 

@@ -1,28 +1,13 @@
--- `trim_end_matches` meets its contract: the bytes from e on are b.
-use lib.Seq.{length-take-le}
-use borrow.Author.Tests.{eq-eqb, ne_eqb}
+-- `trim_end_matches` meets its contract: the last byte decides.
+use Rattle.std.proofs.Common.{rules, sym, ◌∙◌, ap}
+use Rattle.lexis.specs.Text.{less_trailing}
 use Rattle.lexis.proofs.Trimming as L
-use lib.Dec.{eqb}
-use mathlib.Core.Path.{sym, ◌∙◌}
-use borrow.Author.Rules.{rules}
 use Rattle.lexis.proofs.text.trim_end_matches.Goals as goal
 
-pub loop-e-init : goal.loop-e-init
-loop-e-init c = (search rules, L.whole (eqb c.args.b) c.args.text.now)
+pub loop-last-preserved : goal.loop-last-preserved
+loop-last-preserved g c = let p = g.P.Pattern.matches c.args.p in let s = c.in-Some in
+    c.loop-last.invariant ∙ ap (less_trailing p) s.ensures.cases.0 ∙ L.last_goes p s.before.now s.last.now (search rules)
 
-pub slice_bounds-result-end : goal.slice_bounds-result-end
-slice_bounds-result-end c = sym (length-take-le _ _ (search rules))
-
-pub returns-then-text-e : goal.returns-then-text-e
-returns-then-text-e c = let l = c.loop-e in
-    sym (l.invariant.1 ∙ L.end_stop _ _ l.e (search rules) (search rules) (ne_eqb _ _ (λ e. c.if-text-e.true (sym e))))
-
-pub loop-e-preserved : goal.loop-e-preserved
-loop-e-preserved c = let l = c.loop-e in
-    (search rules, l.invariant.1 ∙ L.end_step _ _ l.e (search rules) (search rules) (eq-eqb _ _ (sym c.if-text-e.false)))
-
-pub slice_bounds-result-end-2 : goal.slice_bounds-result-end-2
-slice_bounds-result-end-2 c = sym (length-take-le _ _ (search rules))
-
-pub returns : goal.returns
-returns c = let l = c.loop-e in sym (l.invariant.1 ∙ L.end_none _ _ l.e (search rules))
+pub returns-then-not-matches : goal.returns-then-not-matches
+returns-then-not-matches g c = let p = g.P.Pattern.matches c.args.p in let s = c.in-Some in
+    sym (c.loop-last.invariant ∙ ap (less_trailing p) s.ensures.cases.0 ∙ L.last_stays p s.before.now s.last.now (search rules) ∙ sym s.ensures.cases.0)

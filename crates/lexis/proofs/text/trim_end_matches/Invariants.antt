@@ -1,13 +1,10 @@
--- `trim_end_matches` meets its contract: the bytes from e on are b.
+-- `trim_end_matches` meets its contract: what is passed matches.
+use Rattle.std.proofs.Common.{◌≡◌, length}
 use Rattle.lexis.specs.Text.{less_trailing}
-use lib.Dec.{eqb}
-use lib.ListN.{length, take}
-use Prim.Native.Nat.{◌≤◌}
-use mathlib.Core.Path.{◌≡◌}
 use Rattle.lexis.proofs.text.trim_end_matches.Given as goal
 
-abbrev pub invariant-loop-e : goal.invariant-loop-e
-invariant-loop-e l = (l.e ≤ length l.text) × (less_trailing (eqb l.b) l.text ≡ less_trailing (eqb l.b) (take l.e l.text))
+abbrev pub invariant-loop-last : goal.invariant-loop-last
+invariant-loop-last g l = let p = g.P.Pattern.matches l.p in less_trailing p l.text ≡ less_trailing p l.rest
 
-abbrev pub decreases-loop-e : goal.decreases-loop-e
-decreases-loop-e l = l.e
+abbrev pub decreases-loop-last : goal.decreases-loop-last
+decreases-loop-last g l = length l.rest

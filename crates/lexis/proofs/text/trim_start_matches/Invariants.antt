@@ -1,13 +1,10 @@
--- `trim_start_matches` meets its contract: the i bytes passed are b.
+-- `trim_start_matches` meets its contract: what is passed matches.
+use Rattle.std.proofs.Common.{◌≡◌, length}
 use Rattle.lexis.specs.Text.{less_leading}
-use lib.Dec.{eqb}
-use lib.ListN.{length, drop}
-use Prim.Native.Nat.{◌≤◌, ◌-◌}
-use mathlib.Core.Path.{◌≡◌}
 use Rattle.lexis.proofs.text.trim_start_matches.Given as goal
 
-abbrev pub invariant-loop-i : goal.invariant-loop-i
-invariant-loop-i l = (l.i ≤ length l.text) × (less_leading (eqb l.b) l.text ≡ less_leading (eqb l.b) (drop l.i l.text))
+abbrev pub invariant-loop-first : goal.invariant-loop-first
+invariant-loop-first g l = let p = g.P.Pattern.matches l.p in less_leading p l.text ≡ less_leading p l.rest
 
-abbrev pub decreases-loop-i : goal.decreases-loop-i
-decreases-loop-i l = length l.text - l.i
+abbrev pub decreases-loop-first : goal.decreases-loop-first
+decreases-loop-first g l = length l.rest

@@ -4,4 +4,4 @@ use mathlib.Core.Path.{◌∙◌}
 use Rattle.lexis.proofs.text.until.Goals as goal
 
 pub returns : goal.returns
-returns c = c.seek.ensures ∙ zero-add _
+returns g c = c.seek.ensures ∙ zero-add _
