@@ -1,9 +1,8 @@
 -- Where the strict reading accepts, the ordinary reading answers the same: the same record, every count zero. So it does where the
 -- strict reading refuses a strict form for too long a list.
-use Rattle.std.specs.Prelude.{if◌then◌else◌}
+use Rattle.std.specs.Prelude.{if◌then◌else◌, Option, None, Some}
 use Prim.Native.Nat.{ℕ, ◌≤◌}
 use mathlib.Core.Bool.{Bool, true, false, not}
-use mathlib.Core.Option.{Option, none, some}
 use mathlib.Core.Path.{◌≡◌, refl, sym, ap, ◌∙◌}
 use lib.Dec.{T, leb, le→leb}
 use lib.ListN.{length}
@@ -19,14 +18,14 @@ use Rattle.accord.proofs.Agrees.{Shown, shown, sure, agrees}
 use Rattle.grammar.proofs.Printed.{strict_low}
 
 -- a strict text is found to be its meaning, with every count zero
-pub strict_found : (s : Text) (a : Any) → Strict s a → each shown (parse s) ≡ some (sure a)
-strict_found s a h = ap (λ (t : Text). each shown (parse t)) h.text ∙ agrees h.form h.fine ∙ ap (λ (b : Any). some (sure b)) (sym h.says)
+pub strict_found : (s : Text) (a : Any) → Strict s a → each shown (parse s) ≡ Some (sure a)
+strict_found s a h = ap (λ (t : Text). each shown (parse t)) h.text ∙ agrees h.form h.fine ∙ ap (λ (b : Any). Some (sure b)) (sym h.says)
 
 -- the answer on what is found, in terms of what is shown of it
 abbrev answer : ℕ → Shown → Reading
 answer cap x = if fits cap x.type then record { refusal = Accepted; place = 0; value = flat_any cap x.type; note = x.note } else refused cap TooMany 0
 
-answered : (cap : ℕ) (t : Found) → judged cap (some t) ≡ answer cap (shown t)
+answered : (cap : ℕ) (t : Found) → judged cap (Some t) ≡ answer cap (shown t)
 unfolding shown fits flat_any within accepted flat
 answered cap t = refl
 
@@ -34,9 +33,9 @@ sure_answer : (cap : ℕ) (a : Any) → T (fits cap a) → answer cap (sure a) �
 unfolding taken
 sure_answer cap a h = ap (λ (b : Bool). if b then taken cap a else refused cap TooMany 0) (is_true (fits cap a) h)
 
-settled : (cap : ℕ) (a : Any) (o : Option Found) → each shown o ≡ some (sure a) → judged cap o ≡ answer cap (sure a)
-settled cap a none e = cc
-settled cap a (some t) e = answered cap t ∙ ap (answer cap) (cc e)
+settled : (cap : ℕ) (a : Any) (o : Option Found) → each shown o ≡ Some (sure a) → judged cap o ≡ answer cap (sure a)
+settled cap a None e = cc
+settled cap a (Some t) e = answered cap t ∙ ap (answer cap) (cc e)
 
 module _ (cap size : ℕ) (s : Text) (a : Any) (h : Strict s a) (k : length s ≤ size) where
   whole : ordinary cap size s ≡ answer cap (sure a)

@@ -4,7 +4,7 @@ use Prim.Native.Nat.{ℕ, ◌+◌}
 use native.Mathlib.Omega.{arith}
 use mathlib.Core.Bool.{Bool, true, false, ◌&&◌}
 use mathlib.Core.List.{List, [], ◌∷◌, map, append_assoc, append-nil}
-use mathlib.Core.Option.{some}
+use Rattle.std.specs.Prelude.{Some}
 use mathlib.Core.Path.{◌≡◌, refl, ap, sym, ◌∙◌}
 use lib.Dec.{T, ltb→lt}
 use lib.ListN.{get_or}
@@ -154,31 +154,31 @@ view_hole w = say (bytes "tile=(") ◂ entries_in w.view.tile ◂ say (bytes ")"
 -- ── each form ──
 -- a form with brackets: its hole, its text, what is found in it and what is shown of that
 module _ (f : B.Bracketed) {a c : Shape} {g : List ℕ → List ℕ} (h : Hole a c g) (k : T (fits f a c)) (b m : Bool) where
-  formed : {s : List ℕ} {t : Found} {x : Any} → g (may m the_mark) ⊕ bytes ">" ≡ s → reading f (g []) ≡ some t → shown (attach m t) ≡ sure x →
-      each shown (parse (cuda b ⊕ opening f ⊕ s)) ≡ some (sure x)
+  formed : {s : List ℕ} {t : Found} {x : Any} → g (may m the_mark) ⊕ bytes ">" ≡ s → reading f (g []) ≡ Some t → shown (attach m t) ≡ sure x →
+      each shown (parse (cuda b ⊕ opening f ⊕ s)) ≡ Some (sure x)
   formed e q p =
-      ap (λ (s : List ℕ). each shown (parse (cuda b ⊕ opening f ⊕ s))) (sym e) ∙ ap (each shown) (bracketed f h k b m ∙ ap (each (attach m)) q) ∙ ap some p
+      ap (λ (s : List ℕ). each shown (parse (cuda b ⊕ opening f ⊕ s))) (sym e) ∙ ap (each shown) (bracketed f h k b m ∙ ap (each (attach m)) q) ∙ ap Some p
 
-scalar_reads : (n : Name) → parse (word n) ≡ some (plain K.Scalar (scalar_of n))
+scalar_reads : (n : Name) → parse (word n) ≡ Some (plain K.Scalar (scalar_of n))
 unfolding parse O.mark O.unmarked O.forms scalar_name
-scalar_reads n = table parse (λ s. some (plain K.Scalar s)) words scalars refl n.index (ltb→lt n.index 22 n.within)
+scalar_reads n = table parse (λ s. Some (plain K.Scalar s)) words scalars refl n.index (ltb→lt n.index 22 n.within)
 
-token_reads : (b : Bool) → parse (cuda b ⊕ bytes "token") ≡ some token
+token_reads : (b : Bool) → parse (cuda b ⊕ bytes "token") ≡ Some token
 unfolding parse O.mark O.unmarked
 token_reads true = refl
 token_reads false = refl
 
-pointer_reads : (n : Name) → O.pointer (word n ⊕ []) ≡ some (plain K.Pointer (scalar_of n))
+pointer_reads : (n : Name) → O.pointer (word n ⊕ []) ≡ Some (plain K.Pointer (scalar_of n))
 unfolding O.pointer
 pointer_reads n = ap (λ (s : List ℕ). each (plain K.Pointer) (scalar_name s)) (append-nil (word n)) ∙ ap (each (plain K.Pointer)) (name_word n)
 
-tensor_reads : (t : Form.Tensor) → T (tensor_ok t.shape t.strides) → Tile.tensor_view (body t []) ≡ some (Tile.tensor_found (tensor_found t))
+tensor_reads : (t : Form.Tensor) → T (tensor_ok t.shape t.strides) → Tile.tensor_view (body t []) ≡ Some (Tile.tensor_found (tensor_found t))
 unfolding Tile.tensor_view
 tensor_reads t h = ap (each Tile.tensor_found) (tensor_read t h)
 
-pub agrees : (f : Form) → T (ok f) → each shown (parse (spell f)) ≡ some (sure (mean f))
-agrees (Form.scalar n) h = ap (each shown) (scalar_reads n) ∙ ap some (plain_shown K.Scalar (scalar_of n) false)
-agrees (Form.token b) h = ap (each shown) (token_reads b) ∙ ap some token_shown
+pub agrees : (f : Form) → T (ok f) → each shown (parse (spell f)) ≡ Some (sure (mean f))
+agrees (Form.scalar n) h = ap (each shown) (scalar_reads n) ∙ ap Some (plain_shown K.Scalar (scalar_of n) false)
+agrees (Form.token b) h = ap (each shown) (token_reads b) ∙ ap Some token_shown
 agrees (Form.ptr p) h =
     formed B.pointer (name_in p.name ◂ at_end) tt p.front p.marked (append_assoc (word p.name) (Form.mark p.marked) (bytes ">"))
     (pointer_reads p.name) (plain_shown K.Pointer (scalar_of p.name) p.marked)

@@ -1,11 +1,10 @@
 -- Demand 3 over the definitions that the contracts cite: what the strict reader accepts the ordinary reader answers alike, and what
 -- the writer lays into a room is read back, by both, as the record it was given. By `accord` and `read_back`.
-use Rattle.std.specs.Prelude.{if◌then◌else◌}
+use Rattle.std.specs.Prelude.{if◌then◌else◌, Option, None, Some}
 use Prim.Native.Nat.{ℕ, ◌+◌, ◌*◌, ◌≤◌}
 use native.Mathlib.Omega.{arith}
 use mathlib.Core.Bool.{Bool, true, false}
 use mathlib.Core.List.{◌++◌}
-use mathlib.Core.Option.{Option, none, some}
 use mathlib.Core.Path.{◌≡◌, refl, subst, sym, ap, ◌∙◌}
 use lib.Dec.{T, leb, leb→le}
 use lib.ListN.{length, take, drop}
@@ -34,8 +33,8 @@ module _ (cap size : ℕ) (s : Text) where
   by_judged l (not_strict f) n = absurd (n refl)
 
   by_ascii : length s ≤ size → (o : Option ℕ) (r : Reading) → ReadAscii cap s o r → (r.refusal ≡ NotStrict → ⊥) → ordinary cap size s ≡ read_ascii cap s o → ordinary cap size s ≡ r
-  by_ascii l (some place) r h n q = q ∙ sym h
-  by_ascii l none r h n q = by_judged l h n
+  by_ascii l (Some place) r h n q = q ∙ sym h
+  by_ascii l None r h n q = by_judged l h n
 
   -- WHAT THE STRICT READER DOESN'T REFUSE WITH 5, THE ORDINARY READER ANSWERS ALIKE: a type, counts (all zero) included; a refusal
   pub strict_ordinary : (r : Reading) → Strictly cap size s r → (r.refusal ≡ NotStrict → ⊥) → ordinary cap size s ≡ r
@@ -60,8 +59,8 @@ module _ (cap size : ℕ) (r : Record) (room : Text) (h : 1 ≤ cap) (k : 78 * c
   laid t p false e = let z = ap number e in let f : ⊥ = omega arith in absurd f
 
   texted : (o : Option Text) → When (λ t. Strictly cap size t (answered r)) o → Back (W.texted o room)
-  texted none p e = let z = ap number e in let f : ⊥ = omega arith in absurd f
-  texted (some t) p e = laid t p (leb (length t) (length room)) e
+  texted None p e = let z = ap number e in let f : ⊥ = omega arith in absurd f
+  texted (Some t) p e = laid t p (leb (length t) (length room)) e
 
   -- WHAT THE WRITER STORED IS READ STRICTLY AS THE RECORD IT WAS GIVEN, its attribute included
   pub written_strict : Back (W.writing cap r room)

@@ -1,11 +1,10 @@
 -- A text with a place for the mark is read as the text without it: one pass takes the mark out, and nothing else is changed but
 -- the attribute.
-use Rattle.std.specs.Prelude.{if◌then◌else◌}
+use Rattle.std.specs.Prelude.{if◌then◌else◌, Option, None, Some}
 use Prim.Native.Nat.{ℕ, suc, ◌-◌}
 use native.Mathlib.Omega.{arith}
 use mathlib.Core.Bool.{Bool, true, false, ◌&&◌, not}
 use mathlib.Core.List.{List, [], ◌∷◌, ◌++◌, append_assoc}
-use mathlib.Core.Option.{Option, none, some}
 use mathlib.Core.Path.{◌≡◌, refl, subst, sym, ap, ◌∙◌}
 use lib.Dec.{T}
 use lib.ListN.{length}
@@ -99,7 +98,7 @@ pass n s = go (cut the_mark (trim s))
 -- a text that is trimmed, and isn't empty
 pub record Trimmed (t : List ℕ) : Type 0 where
   pub same : trim t ≡ t
-  pub some : T (not (vacant t))
+  pub Some : T (not (vacant t))
 
 -- enough passes for a mark
 long : (t : List ℕ) → T (not (vacant t)) → (R : Option Found) → ((k : ℕ) → passes (suc (suc k)) t ≡ R) → parse t ≡ R
@@ -112,8 +111,8 @@ attach true = with_attribute
 attach false = λ r. r
 
 attach_none : (o : Option Found) → o ≡ each (attach false) o
-attach_none none = refl
-attach_none (some r) = refl
+attach_none None = refl
+attach_none (Some r) = refl
 
 pub hole_in : {a b : Shape} {g : List ℕ → List ℕ} → Hole a b g → In (seq a b) (g [])
 hole_in {a} {b} h = subst (In (seq a b)) (h.split []) (both h.is_front h.is_tail)

@@ -1,10 +1,9 @@
 -- The ordinary reading of a tile's content and of a tensor view's, in strict forms: the searches are settled by shape, the parts
 -- are read back.
-use Rattle.std.specs.Prelude.{if◌then◌else◌}
+use Rattle.std.specs.Prelude.{if◌then◌else◌, Option, None, Some}
 use Prim.Native.Nat.{ℕ, ◌-◌}
 use mathlib.Core.Bool.{Bool, true, false, ◌&&◌, not}
 use mathlib.Core.List.{List, [], ◌∷◌, ◌++◌, map, append-nil}
-use mathlib.Core.Option.{Option, none, some}
 use mathlib.Core.Path.{◌≡◌, refl, ap, ◌∙◌}
 use lib.Dec.{T, eqb}
 use lib.ListN.{length}
@@ -33,19 +32,19 @@ module _ (ds : List Dim) (n : Name) where
   dims_word : split 120 (dims ds ++ word n) ≡ map dim ds ++ (word n ∷ [])
   dims_word = dims_split ds (word n) (word_class (non (eqb 120)) tt n)
 
-  name_read : scalar_name (last (split 120 (dims ds ++ word n))) ≡ some (scalar_of n)
+  name_read : scalar_name (last (split 120 (dims ds ++ word n))) ≡ Some (scalar_of n)
   name_read = ap (λ (l : List (List ℕ)). scalar_name (last l)) dims_word ∙ ap scalar_name (last_snoc (map dim ds) (word n)) ∙ name_word n
 
   front_read : front (split 120 (dims ds ++ word n)) ≡ map dim ds
   front_read = ap front dims_word ∙ front_snoc (map dim ds) (word n)
 
 -- ── a tile of scalars ──
-pub tile_plain : (ds : List Dim) (n : Name) → T (each_of in64 ds) → tile (dims ds ++ word n) ≡ some (tile_of false (stands (exact (map size ds))) (scalar_of n))
+pub tile_plain : (ds : List Dim) (n : Name) → T (each_of in64 ds) → tile (dims ds ++ word n) ≡ Some (tile_of false (stands (exact (map size ds))) (scalar_of n))
 unfolding tile
 tile_plain ds n h =
     ap (tile_by (dims ds ++ word n)) (absent (bytes "ptr<") (dims_in ds & name_in n) tt)
     ∙ (λ i. each (tile_of false (dimensions (front_read ds n i))) (name_read ds n i))
-    ∙ ap (λ (v : List Entry). some (tile_of false (stands v) (scalar_of n))) (sizes_dims ds h)
+    ∙ ap (λ (v : List Entry). Some (tile_of false (stands v) (scalar_of n))) (sizes_dims ds h)
 
 -- ── a tile of pointers ──
 -- what begins with `!` is never shed from a text without it
@@ -108,7 +107,7 @@ before_dims [] = refl
 before_dims (d ∷ ds) = before_some (dim d) (dims ds) ∙ ap (split 120) (back_dims ds d) ∙ join_split ds d
 
 pub tile_pointer : (ds : List Dim) (b : Bool) (n : Name) → T (each_of in64 ds) →
-    tile (dims ds ⊕ cuda b ⊕ bytes "ptr<" ⊕ word n ⊕ bytes ">") ≡ some (tile_of true (stands (exact (map size ds))) (scalar_of n))
+    tile (dims ds ⊕ cuda b ⊕ bytes "ptr<" ⊕ word n ⊕ bytes ">") ≡ Some (tile_of true (stands (exact (map size ds))) (scalar_of n))
 unfolding tile
 tile_pointer ds b n h =
     ap (tile_by (dims ds ⊕ cuda b ⊕ bytes "ptr<" ⊕ word n ⊕ bytes ">"))
@@ -126,14 +125,14 @@ abbrev pub tensor_found : Form.Tensor → Tensor
 tensor_found t = record { element = scalar_of t.name; shape = stands (exact (map size t.shape)); strides = strides_found t.strides }
 
 parted : (ds : List Dim) (n : Name) (l : Option (List ℕ)) → T (each_of in64 ds) →
-    tensor_parts (dims ds ++ word n) l ≡ some (record { element = scalar_of n; shape = stands (exact (map size ds)); strides = strides_of (length (map dim ds)) l })
+    tensor_parts (dims ds ++ word n) l ≡ Some (record { element = scalar_of n; shape = stands (exact (map size ds)); strides = strides_of (length (map dim ds)) l })
 unfolding tensor_parts
 parted ds n l h =
     (λ i. each (tensor_of (front_read ds n i) l) (name_read ds n i))
-    ∙ ap (λ (v : List Entry). some (record { element = scalar_of n; shape = stands v; strides = strides_of (length (map dim ds)) l })) (sizes_dims ds h)
+    ∙ ap (λ (v : List Entry). Some (record { element = scalar_of n; shape = stands v; strides = strides_of (length (map dim ds)) l })) (sizes_dims ds h)
 
 -- without strides
-lone : (n : Name) → tensor (word n) ≡ tensor_parts (word n) none
+lone : (n : Name) → tensor (word n) ≡ tensor_parts (word n) None
 unfolding tensor
 lone n =
     ap (λ (k : Cut). tensor_by (word n) k (cut (bytes ",strides=") (word n))) (absent (bytes ", strides=") (name_in n) tt)
@@ -156,7 +155,7 @@ module _ (c : Commas Dim) where
   unfolding stride_parts
   bracket_read h = ap (λ (t : List ℕ). map dimension (split 44 t)) unbracket ∙ strides_read c h
 
-  cut_strides : (ds : List Dim) (n : Name) (s : Bool) → tensor (dims ds ⊕ word n ⊕ Form.strides (Form.Strides.given s c) []) ≡ tensor_parts (dims ds ++ word n) (some bracket)
+  cut_strides : (ds : List Dim) (n : Name) (s : Bool) → tensor (dims ds ⊕ word n ⊕ Form.strides (Form.Strides.given s c) []) ≡ tensor_parts (dims ds ++ word n) (Some bracket)
   unfolding tensor
   cut_strides ds n true =
       ap (λ (k : Cut). tensor_by (dims ds ⊕ word n ⊕ bytes ", strides=" ⊕ bracket) k (cut (bytes ",strides=") (dims ds ⊕ word n ⊕ bytes ", strides=" ⊕ bracket)))
@@ -166,20 +165,20 @@ module _ (c : Commas Dim) where
       (absent (bytes ", strides=") (dims_in ds & name_in n & say (bytes ",strides=[") & strs_in c & say (bytes "]")) tt)
       ∙ ap (tensor_by (dims ds ⊕ word n ⊕ bytes ",strides=" ⊕ bracket) nowhere) (first_at (bytes ",strides=") bracket (dims_in ds ⊳ C.last (name_in n)) tt)
 
-pub tensor_read : (t : Form.Tensor) → T (tensor_ok t.shape t.strides) → tensor (body t []) ≡ some (tensor_found t)
+pub tensor_read : (t : Form.Tensor) → T (tensor_ok t.shape t.strides) → tensor (body t []) ≡ Some (tensor_found t)
 tensor_read t = go t.shape t.strides
   where
     strided : (ds : List Dim) (s : Bool) (c : Commas Dim) → T (each_of in64 ds && each_of in64 (values c)) →
         tensor (dims ds ⊕ word t.name ⊕ Form.strides (Form.Strides.given s c) [])
-        ≡ some (record { element = scalar_of t.name; shape = stands (exact (map size ds)); strides = stands (exact (map size (values c))) })
+        ≡ Some (record { element = scalar_of t.name; shape = stands (exact (map size ds)); strides = stands (exact (map size (values c))) })
     strided ds s c h =
-        cut_strides c ds t.name s ∙ parted ds t.name (some (bracket c)) (and_left (each_of in64 ds) (each_of in64 (values c)) h)
-        ∙ ap (λ (v : List Entry). some (record { element = scalar_of t.name; shape = stands (exact (map size ds)); strides = stands v }))
+        cut_strides c ds t.name s ∙ parted ds t.name (Some (bracket c)) (and_left (each_of in64 ds) (each_of in64 (values c)) h)
+        ∙ ap (λ (v : List Entry). Some (record { element = scalar_of t.name; shape = stands (exact (map size ds)); strides = stands v }))
         (bracket_read c (and_right (each_of in64 ds) (each_of in64 (values c)) h))
 
     go : (ds : List Dim) (st : Form.Strides) → T (tensor_ok ds st) → tensor (dims ds ⊕ word t.name ⊕ Form.strides st [])
-        ≡ some (record { element = scalar_of t.name; shape = stands (exact (map size ds)); strides = strides_found st })
-    go [] Form.Strides.absent h = ap tensor (append-nil (word t.name)) ∙ lone t.name ∙ parted [] t.name none tt
+        ≡ Some (record { element = scalar_of t.name; shape = stands (exact (map size ds)); strides = strides_found st })
+    go [] Form.Strides.absent h = ap tensor (append-nil (word t.name)) ∙ lone t.name ∙ parted [] t.name None tt
     go (d ∷ ds) Form.Strides.absent h = absurd h
     go [] (Form.Strides.given s c) h = strided [] s c h
     go (d ∷ ds) (Form.Strides.given s c) h = strided (d ∷ ds) s c h

@@ -3,7 +3,7 @@ use Prim.Native.Nat.{ℕ, zero, suc, ◌<◌}
 use native.Mathlib.Nat.{not-suc-le-zero, le_of_suc-le-suc}
 use mathlib.Core.Bool.{Bool}
 use mathlib.Core.List.{List, [], ◌∷◌, map}
-use mathlib.Core.Option.{some}
+use Rattle.std.specs.Prelude.{Some}
 use mathlib.Core.Path.{◌≡◌, refl}
 use lib.Dec.{T, ltb→lt}
 use lib.ListN.{length}
@@ -20,9 +20,9 @@ table f g (w ∷ ws) [] e i h = cc
 table f g (w ∷ ws) (s ∷ ss) e zero h = cc
 table f g (w ∷ ws) (s ∷ ss) e (suc i) h = table f g ws ss (cc) i (le_of_suc-le-suc h)
 
-pub name_word : (n : Name) → scalar_name (word n) ≡ some (scalar_of n)
+pub name_word : (n : Name) → scalar_name (word n) ≡ Some (scalar_of n)
 unfolding scalar_name
-name_word n = table scalar_name some words scalars refl n.index (ltb→lt n.index 22 n.within)
+name_word n = table scalar_name Some words scalars refl n.index (ltb→lt n.index 22 n.within)
 
 -- a test that each spelling passes, computed once
 pub word_class : (C : ℕ → Bool) → T (every (every C) words) → (n : Name) → T (every C (word n))

@@ -1,11 +1,10 @@
 -- Numerals: what is written in decimal is read back, digit by digit; and trimming does nothing where nothing is to trim.
-use Rattle.std.specs.Prelude.{if◌then◌else◌}
+use Rattle.std.specs.Prelude.{if◌then◌else◌, None, Some}
 use Prim.Native.Nat.{ℕ, zero, suc, ◌+◌, ◌-◌, ◌*◌, ◌/◌, ◌%◌, ◌^◌, ◌≤◌, ◌<◌}
 use native.Mathlib.Omega.{arith}
 use native.Mathlib.Nat.{mod-lt, zero-lt-suc, div-add-mod, le_refl}
 use mathlib.Core.Bool.{Bool, true, false, ◌||◌, not}
 use mathlib.Core.List.{List, [], ◌∷◌, ◌++◌, append-nil}
-use mathlib.Core.Option.{none, some}
 use mathlib.Core.Path.{◌≡◌, refl, sym, ap, ◌∙◌}
 use lib.Dec.{T, eqb, leb, ltb, leb→le, ltb→lt, nltb→le, eqb→eq}
 use lib.IntN.{ℤ, pos, negsuc}
@@ -22,7 +21,7 @@ vacant [] = true
 vacant (c ∷ s) = false
 
 horner_step : (a c : ℕ) (s : List ℕ) → T (digit c) → number_from a (c ∷ s) ≡ number_from (a * 10 + (c - 48)) s
-horner_step a c s h = ap (λ (k : Bool). if k then number_from (a * 10 + (c - 48)) s else none) (is_true (digit c) h)
+horner_step a c s h = ap (λ (k : Bool). if k then number_from (a * 10 + (c - 48)) s else None) (is_true (digit c) h)
 
 horner_digit : (a d n : ℕ) (s : List ℕ) → d < 10 → a * 10 + d ≡ n → number_from a ((48 + d) ∷ s) ≡ number_from n s
 horner_digit a d n s h e = horner_step a (48 + d) s (digit_ok d h) ∙ ap (λ (z : ℕ). number_from z s) (omega arith)
@@ -108,10 +107,10 @@ abbrev pub ranged : ℕ → ℤ → Bool
 ranged w (pos n) = leb n (2 ^ (w - 1) - 1)
 ranged w (negsuc n) = leb (suc n) (2 ^ (w - 1))
 
-kept : (limit : ℕ) (value : ℕ → ℤ) (n : ℕ) → T (leb n limit) → at_most limit value (some n) ≡ some (value n)
-kept limit value n h = ap (λ (k : Bool). if k then some (value n) else none) (is_true (leb n limit) h)
+kept : (limit : ℕ) (value : ℕ → ℤ) (n : ℕ) → T (leb n limit) → at_most limit value (Some n) ≡ Some (value n)
+kept limit value n h = ap (λ (k : Bool). if k then Some (value n) else None) (is_true (leb n limit) h)
 
-pub numeral_decimal : (w : ℕ) (z : ℤ) → T (ranged w z) → numeral w (decimal z) ≡ some z
+pub numeral_decimal : (w : ℕ) (z : ℤ) → T (ranged w z) → numeral w (decimal z) ≡ Some z
 numeral_decimal w (pos n) h =
     numeral_digits w (digits n n []) (digits_digit n n [] tt) (digits_any n n [])
     ∙ ap (at_most (2 ^ (w - 1) - 1) pos) (digits_horner n n [] (le_refl n)) ∙ kept (2 ^ (w - 1) - 1) pos n h

@@ -1,10 +1,9 @@
 -- The ordinary reading of the three views' contents, in strict forms: the tile, the inner tensor view, the padding and the lists
 -- are each found where they stand.
-use Rattle.std.specs.Prelude.{if◌then◌else◌}
+use Rattle.std.specs.Prelude.{if◌then◌else◌, None, Some}
 use Prim.Native.Nat.{ℕ}
 use mathlib.Core.Bool.{Bool, false, ◌||◌}
 use mathlib.Core.List.{List, [], ◌∷◌, ◌++◌, append_assoc}
-use mathlib.Core.Option.{none, some}
 use mathlib.Core.Path.{◌≡◌, refl, ap, ◌∙◌}
 use lib.Dec.{T, eqb}
 use lib.IntN.{ℤ, pos}
@@ -37,20 +36,20 @@ module _ (w : Sight) where
   abbrev onward : List ℕ → List ℕ → List ℕ
   onward tp ti = comma w.view.space ⊕ w.middle.text ⊕ tp ⊕ ti ⊕ bytes "tensor_view<" ⊕ beyond
 
-  start : (i : Form.Intro) {tp : List ℕ} → In pad_shape tp → W.opened (whole w tp (Form.intro_text i) []) (onward tp (Form.intro_text i)) ≡ some beyond
+  start : (i : Form.Intro) {tp : List ℕ} → In pad_shape tp → W.opened (whole w tp (Form.intro_text i) []) (onward tp (Form.intro_text i)) ≡ Some beyond
   unfolding W.opened
   start Form.bare ip = λ j.
       W.◌or◌ (absent (bytes "tensor_view=!cuda_tile.tensor_view<") (whole_in w ip (say [])) tt j)
       (W.◌or◌ (absent (bytes "!cuda_tile.tensor_view<") (whole_in w ip (say [])) tt j)
-      (W.◌or◌ (first_at (bytes "tensor_view<") beyond (comma_in w.view.space ⊳ w.middle.is ⊳ last ip) tt j) none))
+      (W.◌or◌ (first_at (bytes "tensor_view<") beyond (comma_in w.view.space ⊳ w.middle.is ⊳ last ip) tt j) None))
   start Form.prefixed {tp} ip = λ j.
       W.◌or◌ (absent (bytes "tensor_view=!cuda_tile.tensor_view<") (whole_in w ip (say (bytes "!cuda_tile."))) tt j)
       (W.◌or◌ (first_at (bytes "!cuda_tile.tensor_view<") beyond (tiled w (last ip)) tt j)
-      (W.◌or◌ (cut (bytes "tensor_view<") (onward tp (bytes "!cuda_tile."))) none))
+      (W.◌or◌ (cut (bytes "tensor_view<") (onward tp (bytes "!cuda_tile."))) None))
   start Form.named {tp} ip = λ j.
       W.◌or◌ (first_at (bytes "tensor_view=!cuda_tile.tensor_view<") beyond (tiled w (last ip)) tt j)
       (W.◌or◌ (cut (bytes "!cuda_tile.tensor_view<") (whole w tp (Form.intro_text Form.named) []))
-      (W.◌or◌ (cut (bytes "tensor_view<") (onward tp (Form.intro_text Form.named))) none))
+      (W.◌or◌ (cut (bytes "tensor_view<") (onward tp (Form.intro_text Form.named))) None))
 
 -- ── what the three share ──
 abbrev pub view_found : Form.View → W.View
@@ -60,7 +59,7 @@ module _ (w : Sight) (h : T (view_ok w.view)) where
   abbrev v : Form.View
   v = w.view
 
-  inner_read : W.inner_by (W.opened (inside w []) (onward w (Form.pad_text v.padding) (Form.intro_text v.intro))) ≡ some (tensor_found v.tensor)
+  inner_read : W.inner_by (W.opened (inside w []) (onward w (Form.pad_text v.padding) (Form.intro_text v.intro))) ≡ Some (tensor_found v.tensor)
   inner_read =
       ap W.inner_by (start w v.intro (pad_in v.padding))
       ∙ ap (λ (k : Cut). tensor (W.enclosed k)) (enclosed_by (body_in v.tensor) tt (comma v.space' ⊕ w.end.text))
@@ -71,7 +70,7 @@ module _ (w : Sight) (h : T (view_ok w.view)) where
       ap (up_to (bytes ")")) (first (bytes "tile=(") (say []) tt (entries v.tile ⊕ bytes ")" ⊕ onward w (Form.pad_text v.padding) (Form.intro_text v.intro)))
       ∙ first (bytes ")") (entries_in v.tile) tt (onward w (Form.pad_text v.padding) (Form.intro_text v.intro))
 
-  view_read : W.view (inside w []) ≡ some (view_found v)
+  view_read : W.view (inside w []) ≡ Some (view_found v)
   unfolding W.view
   view_read =
       ap (W.view_by (inside w [])) tile_cut
@@ -130,21 +129,21 @@ module _ (v : Form.View) where
 
   -- ── the three ──
   pub partition_read : (c : Commas ℤ) → T (view_ok v) → T (each_of in32 (values c)) →
-      W.partition_view (inside (with no_travel (map_of c)) []) ≡ some (W.view_of K.Partition (stands (exact (values c))) unused unused (view_found v))
+      W.partition_view (inside (with no_travel (map_of c)) []) ≡ Some (W.view_of K.Partition (stands (exact (values c))) unused unused (view_found v))
   unfolding W.partition_view
   partition_read c h k =
       (λ i. W.partition_from (map_read no_travel c i) (view_read (with no_travel (map_of c)) h i))
-      ∙ ap (λ (m : Clause). some (W.view_of K.Partition m unused unused (view_found v))) (given_read c k)
+      ∙ ap (λ (m : Clause). Some (W.view_of K.Partition m unused unused (view_found v))) (given_read c k)
 
   pub gather_read : (z : ℤ) → T (view_ok v) → T (in32 z) →
-      W.gather_scatter_view (inside (with no_travel (sparse_of z)) []) ≡ some (W.view_of K.GatherScatter unused unused (stands (exact (z ∷ []))) (view_found v))
+      W.gather_scatter_view (inside (with no_travel (sparse_of z)) []) ≡ Some (W.view_of K.GatherScatter unused unused (stands (exact (z ∷ []))) (view_found v))
   unfolding W.gather_scatter_view
   gather_read z h k = λ i. each (W.view_of K.GatherScatter unused unused (sparse_read z k i)) (view_read (with no_travel (sparse_of z)) h i)
 
   pub strided_read : (c : Commas ℤ) (s : Bool) (d : Commas ℤ) → T (view_ok v) → T (each_of in32 (values c)) → T (each_of in32 (values d)) →
       W.strided_view (inside (with (travel_of c s) (map_of d)) [])
-      ≡ some (W.view_of K.Strided (stands (exact (values d))) (stands (exact (values c))) unused (view_found v))
+      ≡ Some (W.view_of K.Strided (stands (exact (values d))) (stands (exact (values c))) unused (view_found v))
   unfolding W.strided_view W.strided_of
   strided_read c s d h k l =
       (λ i. each (W.strided_of (map_read (travel_of c s) d i) (travel_read c s (map_of d) i)) (view_read (with (travel_of c s) (map_of d)) h i))
-      ∙ (λ i. some (W.view_of K.Strided (given_read d l i) (given_read c k i) unused (view_found v)))
+      ∙ (λ i. Some (W.view_of K.Strided (given_read d l i) (given_read c k i) unused (view_found v)))

@@ -2,7 +2,7 @@
 use Prim.Native.Nat.{ℕ}
 use mathlib.Core.Bool.{Bool, true, false, ◌&&◌}
 use mathlib.Core.List.{List, [], ◌∷◌, ◌++◌, append_assoc}
-use mathlib.Core.Option.{Option, none, some}
+use Rattle.std.specs.Prelude.{Option, None, Some}
 use mathlib.Core.Path.{◌≡◌, refl, subst, ap, ◌∙◌}
 use lib.Dec.{T}
 use Rattle.lexis.specs.Text.{bytes, white, less_trailing, unless_last, Cut}
@@ -40,7 +40,7 @@ reading strided = W.strided_view
 
 -- a form that applies decides
 abbrev decide : Option (List ℕ) → (List ℕ → Option Found) → Option Found → Option Found
-decide c f o = elim c as (λ _. Option Found) [ some t ↦ f t | none ↦ o ]
+decide c f o = elim c as (λ _. Option Found) [ Some t ↦ f t | None ↦ o ]
 
 applies : {sh : Shape} {t : List ℕ} (o : Option Found) (f : List ℕ → Option Found) → In sh t → T (level sh) → decide (content (t ++ bytes ">")) f o ≡ f t
 applies {t = t} o f i h = ap (λ (k : Cut). decide (content_by (t ++ bytes ">") k) f o) (enclosed_by i h [])
@@ -63,13 +63,13 @@ dispatch false strided i h = applies _ W.strided_view i h
 -- ── nothing is to trim ──
 -- what is trimmed at its end is trimmed
 begun : (b : Bool) (f : Bracketed) (s : List ℕ) → less_trailing white (cuda b ⊕ opening f ⊕ s) ≡ cuda b ⊕ opening f ⊕ s → Trimmed (cuda b ⊕ opening f ⊕ s)
-begun true f s e = record { same = e; some = tt }
-begun false tile s e = record { same = e; some = tt }
-begun false tensor s e = record { same = e; some = tt }
-begun false pointer s e = record { same = e; some = tt }
-begun false partition s e = record { same = e; some = tt }
-begun false gather s e = record { same = e; some = tt }
-begun false strided s e = record { same = e; some = tt }
+begun true f s e = record { same = e; Some = tt }
+begun false tile s e = record { same = e; Some = tt }
+begun false tensor s e = record { same = e; Some = tt }
+begun false pointer s e = record { same = e; Some = tt }
+begun false partition s e = record { same = e; Some = tt }
+begun false gather s e = record { same = e; Some = tt }
+begun false strided s e = record { same = e; Some = tt }
 
 ended : (t : List ℕ) → less_trailing white (t ++ bytes ">") ≡ t ++ bytes ">"
 ended [] = refl

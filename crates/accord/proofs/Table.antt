@@ -1,12 +1,11 @@
 -- The rows of document 01, whole: each text with what the ordinary reader, the strict reader and the writer answer. One table, one theorem:
 -- the three columns are computed by the checker, and the strict one is turned into the definition by `answer_right`.
-use Rattle.std.specs.Prelude.{if◌then◌else◌}
+use Rattle.std.specs.Prelude.{if◌then◌else◌, Option, None, Some}
 use Prim.Native.Nat.{ℕ}
 use Prim.Native.String.{String}
 use mathlib.Core.Bool.{false}
 use mathlib.Core.List as L
 use mathlib.Core.List.{List, [], ◌∷◌, ◌++◌}
-use mathlib.Core.Option.{Option, none, some}
 use mathlib.Core.Path.{◌≡◌, refl, subst, ap}
 use native.Mathlib.Omega.{arith}
 use lib.Dec.{eqb}
@@ -82,12 +81,12 @@ room = replicate 120 7
 
 -- the record that was read, written
 abbrev pub wrote : Reading → Option W.Outcome
-wrote r = if eqb (number r.refusal) 0 then some (W.writing 8 r.value room) else none
+wrote r = if eqb (number r.refusal) 0 then Some (W.writing 8 r.value room) else None
 
 abbrev pub says : Writes → Option W.Outcome
-says (text s) = some (W.outcome (record { refusal = Accepted; len = length (bytes s) }) (bytes s ++ drop (length (bytes s)) room))
-says no_text = some (W.refused NoText room)
-says nothing_read = none
+says (text s) = Some (W.outcome (record { refusal = Accepted; len = length (bytes s) }) (bytes s ++ drop (length (bytes s)) room))
+says no_text = Some (W.refused NoText room)
+says nothing_read = None
 
 pub record Held (r : Row) (c : Columns) : Type 0 where
   pub ordinary : ordinary 8 1024 (bytes r.text) ≡ r.answer

@@ -1,6 +1,6 @@
 -- What the writer's answer in numbers is, by whether the numbers are some record's.
 use mathlib.Core.Bool.{true, false, true≢false, false≢true}
-use mathlib.Core.Option.{Option, none, some}
+use Rattle.std.specs.Prelude.{Option, None, Some}
 use mathlib.Core.Path.{◌≡◌, refl, sym, ap, ◌∙◌}
 use Rattle.lexis.specs.Text.{Text}
 use Rattle.meaning.specs.declared.Record.{Record}
@@ -15,12 +15,12 @@ use Rattle.capi.specs.Abi.{outcome, answer_numbers, outcome_numbers, write_given
 
 module _ (v : Sent) (room : Text) where
   refused_as : (o : Option Record) → v ≡ sent o → v.known ≡ false → write_given o room ≡ W.refused NotNormal room
-  refused_as none e h = refl
-  refused_as (some r) e h = absurd (true≢false (sym (ap (λ (s : Sent). s.known) e) ∙ h))
+  refused_as None e h = refl
+  refused_as (Some r) e h = absurd (true≢false (sym (ap (λ (s : Sent). s.known) e) ∙ h))
 
   written_as : (o : Option Record) → v ≡ sent o → v.known ≡ true → writing 8 v.value room ≡ write_given o room
-  written_as none e h = absurd (false≢true (sym (ap (λ (s : Sent). s.known) e) ∙ h))
-  written_as (some r) e h = ap (λ (s : Sent). writing 8 s.value room) e
+  written_as None e h = absurd (false≢true (sym (ap (λ (s : Sent). s.known) e) ∙ h))
+  written_as (Some r) e h = ap (λ (s : Sent). writing 8 s.value room) e
 
   module _ (n : TypetextRecord) (e : v ≡ sent (of_numbers n)) where
     pub unknown_refused : v.known ≡ false → outcome (record { len = 0; refusal = 6 }) room ≡ write_numbers n room

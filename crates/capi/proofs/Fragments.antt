@@ -5,7 +5,7 @@ use native.Mathlib.Nat.{add-zero, sub-zero}
 use native.Mathlib.Omega.{arith}
 use mathlib.Core.Bool.{Bool, true, false}
 use mathlib.Core.List.{List, [], ◌∷◌, ◌++◌, flatten, foldl}
-use mathlib.Core.Option.{some}
+use Rattle.std.specs.Prelude.{Some}
 use mathlib.Core.Path.{◌≡◌, refl, sym, ap, subst, ◌∙◌}
 use borrow.Author.Tests.{eq-eqb}
 use lib.Dec.{eqb, leb}
@@ -48,9 +48,9 @@ module _ (size : ℕ) (c : Collector) (y : in_order size c ≡ true) where
   form_back : formed size (to_block c) ≡ true
   form_back = rw (eq-eqb (length (to_block c)) (size + 3) (length-append c.bytes (last_bytes c.len c.over) ∙ ap (λ (n : ℕ). n + 3) full), behind 2, flag_one c.over)
 
-  pub back : lent size (to_block c) ≡ some c
+  pub back : lent size (to_block c) ≡ Some c
   unfolding lent
-  back = rw (form_back, ap (in_order size) held_back ∙ y) (ap some held_back)
+  back = rw (form_back, ap (in_order size) held_back ∙ y) (ap Some held_back)
 
 module _ (cap size : ℕ) where
   -- the block, after a piece
@@ -72,7 +72,7 @@ module _ (cap size : ℕ) where
   abbrev pub after_pieces : List Text → Text
   after_pieces pieces = foldl after_piece (replicate (size + 3) 0) pieces
 
-  holds : (pieces : List Text) → lent size (after_pieces pieces) ≡ some (P.after size pieces)
+  holds : (pieces : List Text) → lent size (after_pieces pieces) ≡ Some (P.after size pieces)
   holds pieces =
       ap (λ (b : Text). lent size (foldl after_piece b pieces)) (sym zero_block)
       ∙ ap (lent size) (fed_all (fresh size) pieces (P.fresh_in_order size)) ∙ back size (P.after size pieces) (P.stays_in_order size pieces)

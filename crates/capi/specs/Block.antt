@@ -1,7 +1,6 @@
 -- A collector in a block of bytes that C lends (docs/ABI.md): the room for the bytes so far, their number in two bytes, high byte
 -- first, and the over-full mark, 0 or 1. `size` is the limit of a text, `cap` that of a list.
-use Rattle.std.specs.Prelude.{if◌then◌else◌, ℕ, ◌+◌, ◌*◌, ◌/◌, ◌%◌, Bool, true, ◌&&◌, [], ◌∷◌, ◌++◌, ◌≡◌, eqb, leb, length, take, get_or}
-use Rattle.std.proofs.Math.Option.{Option, none, some}
+use Rattle.std.specs.Prelude.{if◌then◌else◌, ℕ, ◌+◌, ◌*◌, ◌/◌, ◌%◌, Bool, true, ◌&&◌, [], ◌∷◌, ◌++◌, ◌≡◌, eqb, leb, length, take, get_or, Option, None, Some}
 use Rattle.lexis.specs.Text.{Text}
 use Rattle.meaning.specs.Ordinary.{refused}
 use Rattle.meaning.specs.declared.Reading.{Reading}
@@ -25,25 +24,25 @@ to_block c = c.bytes ++ last_bytes c.len c.over
 
 -- the collector in order that a block holds
 unfoldable pub lent : ℕ → Text → Option Collector
-lent size b = if formed size b && in_order size (of_block size b) then some (of_block size b) else none
+lent size b = if formed size b && in_order size (of_block size b) then Some (of_block size b) else None
 
 -- a piece: 0; 6 for a block that holds no collector in order, which is unaltered
 abbrev pub feed_number : Option Collector → ℕ
-feed_number (some c) = 0
-feed_number none = 6
+feed_number (Some c) = 0
+feed_number None = 6
 
 abbrev pub fed_block : ℕ → Text → Text → Option Collector → Text
-fed_block size b piece (some c) = to_block (fed size c piece)
-fed_block size b piece none = b
+fed_block size b piece (Some c) = to_block (fed size c piece)
+fed_block size b piece None = b
 
 -- the end
 abbrev pub read_block : ℕ → ℕ → Option Collector → Reading
-read_block cap size (some c) = answered cap size c
-read_block cap size none = refused cap NotNormal 0
+read_block cap size (Some c) = answered cap size c
+read_block cap size None = refused cap NotNormal 0
 
 abbrev pub ended_block : ℕ → Text → Option Collector → Text
-ended_block size b (some c) = to_block (fresh size)
-ended_block size b none = b
+ended_block size b (Some c) = to_block (fresh size)
+ended_block size b None = b
 
 -- for private contracts: number and mark of a block that has the form
 pub record Formed (size : ℕ) (b : Text) (n : ℕ) (o : Bool) : Type 0 where

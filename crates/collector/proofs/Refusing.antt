@@ -1,10 +1,9 @@
 -- Refusal 6 comes exactly for a collector that isn't in order, from a piece and from the end alike, and it is then unaltered.
 -- A piece gives no other refusal.
-use Rattle.std.specs.Prelude.{if◌then◌else◌}
+use Rattle.std.specs.Prelude.{if◌then◌else◌, Option, None, Some}
 use Prim.Native.Nat.{ℕ}
 use native.Mathlib.Omega.{arith}
 use mathlib.Core.Bool.{Bool, true, false}
-use mathlib.Core.Option.{Option, none, some}
 use mathlib.Core.Path.{◌≡◌, refl}
 use lib.Dec.{leb}
 use lib.ListN.{length}
@@ -30,8 +29,8 @@ Not6 r = R.number r.refusal ≡ 6 → ⊥
 module _ (cap : ℕ) where
   judged_not_6 : (o : Option Found) → Not6 (judged cap o)
   unfolding refused accepted
-  judged_not_6 none e = omega arith
-  judged_not_6 (some t) e = by (within cap t) e
+  judged_not_6 None e = omega arith
+  judged_not_6 (Some t) e = by (within cap t) e
     where
       by : (d : Bool) → Not6 (if d then accepted cap t else refused cap TooMany 0)
       by true e = omega arith
@@ -39,8 +38,8 @@ module _ (cap : ℕ) where
 
   ascii_not_6 : (s : Text) (o : Option ℕ) → Not6 (read_ascii cap s o)
   unfolding refused
-  ascii_not_6 s none e = judged_not_6 (parse s) e
-  ascii_not_6 s (some place) e = omega arith
+  ascii_not_6 s None e = judged_not_6 (parse s) e
+  ascii_not_6 s (Some place) e = omega arith
 
   ordinary_not_6 : (size : ℕ) (s : Text) → Not6 (ordinary cap size s)
   unfolding ordinary refused

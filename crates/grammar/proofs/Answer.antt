@@ -1,10 +1,9 @@
 -- The strict reader's answer over its definition: there is one for every text, and no other. `answer` gives it by `read`.
-use Rattle.std.specs.Prelude.{if◌then◌else◌}
+use Rattle.std.specs.Prelude.{if◌then◌else◌, Option, None, Some}
 use Prim.Native.Nat.{ℕ}
 use native.Mathlib.Omega.{arith}
 use mathlib.Core.Bool.{Bool, true, false, not}
 use mathlib.Core.List.{[], ◌∷◌}
-use mathlib.Core.Option.{Option, none, some}
 use mathlib.Core.Path.{◌≡◌, refl, sym, ap, ◌∙◌}
 use lib.Dec.{T, leb}
 use lib.ListN.{length}
@@ -22,8 +21,8 @@ judge cap (got a (c ∷ r)) = refused cap NotStrict 0
 judge cap (stuck r) = refused cap NotStrict 0
 
 abbrev pub answer_ascii : ℕ → Text → Option ℕ → Reading
-answer_ascii cap s (some place) = refused cap HighByte place
-answer_ascii cap s none = judge cap (read s)
+answer_ascii cap s (Some place) = refused cap HighByte place
+answer_ascii cap s None = judge cap (read s)
 
 -- for lists of at most `cap` entries and texts of at most `size` bytes
 unfoldable pub answer : ℕ → ℕ → Text → Reading
@@ -60,12 +59,12 @@ module _ (cap : ℕ) (s : Text) where
       by (stuck r) g = refl
 
   ascii_right : (o : Option ℕ) → ReadAscii cap s o (answer_ascii cap s o)
-  ascii_right (some place) = refl
-  ascii_right none = judged (read s) refl
+  ascii_right (Some place) = refl
+  ascii_right None = judged (read s) refl
 
   ascii_only : (o : Option ℕ) (r : Reading) → ReadAscii cap s o r → r ≡ answer_ascii cap s o
-  ascii_only (some place) r h = h
-  ascii_only none r h = only h
+  ascii_only (Some place) r h = h
+  ascii_only None r h = only h
 
 module _ (cap size : ℕ) (s : Text) where
   pub answer_right : Strictly cap size s (answer cap size s)

@@ -3,7 +3,7 @@ use Prim.Native.Nat.{ℕ, suc}
 use native.Mathlib.Omega.{arith}
 use mathlib.Core.Bool.{Bool, true, false}
 use mathlib.Core.List.{List, [], ◌∷◌, ◌++◌}
-use mathlib.Core.Option.{none}
+use Rattle.std.specs.Prelude.{None}
 use mathlib.Core.Path.{◌≡◌, refl, sym, subst}
 use borrow.Author.Tests.{lt-leb}
 use lib.Dec.{T, leb, ltb, leb→le, lt→ltb, ltb→lt}
@@ -40,7 +40,7 @@ quoted t h = record { within = h }
 nil : Plain []
 nil = record { within = tt }
 
-none_high : (k : ℕ) (t : Text) → T (plain t) → high_from k t ≡ none
+none_high : (k : ℕ) (t : Text) → T (plain t) → high_from k t ≡ None
 none_high k [] h = refl
 none_high k (b ∷ t) h =
     let e = lt-leb 128 b (ltb→lt b 128 (and_left (low b) (plain t) h)) in
@@ -150,5 +150,5 @@ plainly : (t : Text) (a : Any) → Strict t a → T (plain t)
 plainly t a h = subst (λ (u : Text). T (plain u)) (sym h.text) (spell_plain h.form).within
 
 -- A STRICT TEXT IS ASCII
-pub strict_low : (t : Text) (a : Any) → Strict t a → high_from 0 t ≡ none
+pub strict_low : (t : Text) (a : Any) → Strict t a → high_from 0 t ≡ None
 strict_low t a h = none_high 0 t (plainly t a h)

@@ -1,9 +1,8 @@
 -- What an entry is, by the tests and answers that the code has of its trimmed text t, or by its numeral where that is known.
-use Rattle.std.specs.Prelude.{if◌then◌else◌}
+use Rattle.std.specs.Prelude.{if◌then◌else◌, Option, Some}
 use mathlib.Core.Path.{◌≡◌, refl, sym, ap, ◌∙◌}
 use mathlib.Core.Bool.{Bool, true, false, ◌&&◌}
 use mathlib.Core.List.{[], ◌∷◌}
-use mathlib.Core.Option.{Option, some}
 use Prim.Native.Nat.{ℕ, ◌+◌, ◌-◌}
 use native.Mathlib.Omega.{arith}
 use borrow.Author.Tests.{eqb-true}
@@ -41,7 +40,7 @@ number32 d s e n = ap (read_or d) n ∙ ap (λ (u : Text). read_or d (numeral 32
 -- ── where the numeral is known ──
 
 -- `?` is no numeral
-no_question : (t : Text) {z : ℤ} → some z ≡ numeral 64 t → same t (bytes "?") ≡ false
+no_question : (t : Text) {z : ℤ} → Some z ≡ numeral 64 t → same t (bytes "?") ≡ false
 no_question [] e = refl
 no_question (b ∷ []) {z} e = by (eqb b 63) (eqb-true b 63)
   where
@@ -54,7 +53,7 @@ no_question (b ∷ c ∷ t) e = by (eqb b 63)
     by true = refl
     by false = refl
 
-pub known : (s : Text) {z : ℤ} → some z ≡ numeral 64 (trim s) → as_read z ≡ dimension s
+pub known : (s : Text) {z : ℤ} → Some z ≡ numeral 64 (trim s) → as_read z ≡ dimension s
 known s e = ap (read_or DYNAMIC) e ∙ sym (by_test s refl refl false (no_question (trim s) e))
 
 -- a part of k bytes says what stands before its separator

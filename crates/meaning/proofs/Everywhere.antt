@@ -1,11 +1,10 @@
 -- What holds of everything that the definition makes holds of what every text is read as: over all forms, marks and passes.
 -- From it, what holds of every answer of the ordinary reader.
-use Rattle.std.specs.Prelude.{if◌then◌else◌}
+use Rattle.std.specs.Prelude.{if◌then◌else◌, Option, None, Some}
 use Prim.Native.Nat.{ℕ, zero, suc}
 use Prim.Native.Char.{code}
 use mathlib.Core.Bool.{Bool, true, false, ◌||◌}
 use mathlib.Core.List.{List, [], ◌∷◌}
-use mathlib.Core.Option.{Option, none, some}
 use mathlib.Core.Path.{◌≡◌, refl}
 use lib.Dec.{leb}
 use lib.ListN.{length}
@@ -58,15 +57,15 @@ module _ (P : Found → Type 0) (r : Read P) where
   by_forms_all [] h s = all_each P (plain K.Scalar) r.scalar (scalar_name s)
   by_forms_all (f ∷ fs) h s = by (bracketed (bytes f.opens) s) (by_forms_all fs h.1 s)
     where
-      by : (o : Option Text) → When P (O.by_forms fs s) → When P (elim o [ some t ↦ f.content t | none ↦ O.by_forms fs s ])
-      by none k = k
-      by (some t) k = h.0 t
+      by : (o : Option Text) → When P (O.by_forms fs s) → When P (elim o [ Some t ↦ f.content t | None ↦ O.by_forms fs s ])
+      by None k = k
+      by (Some t) k = h.0 t
 
   pub unmarked_all : (s : Text) → When P (O.unmarked s)
   unfolding O.unmarked
   unmarked_all s = by (same s (bytes "!cuda_tile.token") || same s (bytes "token"))
     where
-      by : (b : Bool) → When P (if b then some token else O.by_forms O.forms s)
+      by : (b : Bool) → When P (if b then Some token else O.by_forms O.forms s)
       by true = r.token_is
       by false = by_forms_all O.forms forms_all s
 
@@ -76,8 +75,8 @@ module _ (P : Found → Type 0) (r : Read P) where
     where
       by : (c : Cut) (o : Option Found) → When P o → When P (elim c [ nowhere ↦ O.unmarked (trim s) | at u t ↦ each with_attribute o ])
       by nowhere o h = unmarked_all (trim s)
-      by (at u t) none h = tt
-      by (at u t) (some f) h = r.attribute f h
+      by (at u t) None h = tt
+      by (at u t) (Some f) h = r.attribute f h
 
   parse_all : (s : Text) → When P (O.parse s)
   unfolding O.parse
@@ -95,8 +94,8 @@ pub record Answers (P : Found → Type 0) (cap : ℕ) (Q : Reading → Type 0) :
 
 module _ (P : Found → Type 0) (r : Read P) (cap : ℕ) (Q : Reading → Type 0) (q : Answers P cap Q) where
   judged_all : (o : Option Found) → When P o → Q (O.judged cap o)
-  judged_all none h = q.no_type
-  judged_all (some t) h = by (within cap t) (q.accepts t h)
+  judged_all None h = q.no_type
+  judged_all (Some t) h = by (within cap t) (q.accepts t h)
     where
       by : (d : Bool) → (d ≡ true → Q (O.accepted cap t)) → Q (if d then O.accepted cap t else O.refused cap TooMany 0)
       by true k = k refl
@@ -107,8 +106,8 @@ module _ (P : Found → Type 0) (r : Read P) (cap : ℕ) (Q : Reading → Type 0
   ordinary_all size s = by (leb (length s) size) (O.high_from 0 s)
     where
       by : (d : Bool) (o : Option ℕ) → Q (if d then O.read_ascii cap s o else O.refused cap TooLong 0)
-      by true none = judged_all (O.parse s) (parse_all P r s)
-      by true (some place) = q.high place
+      by true None = judged_all (O.parse s) (parse_all P r s)
+      by true (Some place) = q.high place
       by false o = q.too_long
 
 -- ── where every maker gives it, whatever it is made of ──
@@ -143,10 +142,10 @@ module _ (P : Found → Type 0) (m : Made P) where
   partition_all s = by (W.list_after (bytes "dim_map=[") s) (W.view s)
     where
       by : (l : Listed) (o : Option View) → When P (W.partition_from l o)
-      by l none = tt
-      by absent (some v) = m.partition (W.own_map v) v
-      by unclosed (some v) = tt
-      by (listed t) (some v) = m.partition (W.entries t) v
+      by l None = tt
+      by absent (Some v) = m.partition (W.own_map v) v
+      by unclosed (Some v) = tt
+      by (listed t) (Some v) = m.partition (W.entries t) v
 
   gather_all : (s : Text) → When P (W.gather_scatter_view s)
   unfolding W.gather_scatter_view

@@ -1,7 +1,7 @@
 -- The 16 scalars and the name that the writer gives each, which is its first spelling in `parse_scalar` (01, "Written text"). By computation.
 use Prim.Native.Nat.{ℕ}
 use mathlib.Core.List.{List, [], ◌∷◌, map}
-use mathlib.Core.Option.{some}
+use Rattle.std.specs.Prelude.{Some}
 use mathlib.Core.Path.{◌≡◌, refl}
 use Rattle.lexis.specs.Text.{Text, bytes}
 use Rattle.scalars.specs.Names.{Name, ◌is◌}
@@ -34,7 +34,7 @@ pub names_written : map (λ (n : Name). word (first n.scalar)) written_names ≡
 names_written = refl
 
 -- every scalar stands there
-pub all_written : (e : Scalar) → (k : ℕ) × (at_place written_names k ≡ some e)
+pub all_written : (e : Scalar) → (k : ℕ) × (at_place written_names k ≡ Some e)
 all_written I1 = (0, refl)
 all_written I4 = (1, refl)
 all_written I8 = (2, refl)

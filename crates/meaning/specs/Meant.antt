@@ -1,7 +1,6 @@
 -- What strict forms mean (01, "Strict forms"), and which are well formed: each numeral in the range of its place, the strides
 -- absent at rank 0 only. A strict text has a well-formed form; its meaning is a type of any rank.
-use Rattle.std.specs.Prelude.{ℕ, Bool, true, false, ◌&&◌, not, List, [], ◌∷◌, map, ◌≡◌, T, leb, ℤ, pos, length}
-use Rattle.std.proofs.Math.Option.{Option, none, some}
+use Rattle.std.specs.Prelude.{ℕ, Bool, true, false, ◌&&◌, not, List, [], ◌∷◌, map, ◌≡◌, T, leb, ℤ, pos, length, Option, None, Some}
 use Rattle.lexis.specs.Text.{Text}
 use Rattle.scalars.specs.declared.scalar.Scalar.{Scalar}
 use Rattle.scalars.specs.declared.scalar.Scalar.TheVariants.{I1}
@@ -145,8 +144,8 @@ pub data Judged (cap : ℕ) (s : Text) : Reading → Type 0 where
   not_strict : ((a : Any) → Strict s a → ⊥) → Judged cap s (refused cap NotStrict 0)
 
 abbrev pub ReadAscii : ℕ → Text → Option ℕ → Reading → Type 0
-ReadAscii cap s (some place) r = r ≡ refused cap HighByte place
-ReadAscii cap s none r = Judged cap s r
+ReadAscii cap s (Some place) r = r ≡ refused cap HighByte place
+ReadAscii cap s None r = Judged cap s r
 
 -- for lists of at most `cap` entries and texts of at most `size` bytes
 abbrev pub Strictly : ℕ → ℕ → Text → Reading → Type 0

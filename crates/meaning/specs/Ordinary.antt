@@ -1,7 +1,6 @@
 -- `Type::parse` (01, module 7), and what the ordinary reader answers.
-use Rattle.std.specs.Prelude.{if◌then◌else◌, ℕ, zero, suc, ◌||◌, List, [], ◌∷◌, leb, length}
+use Rattle.std.specs.Prelude.{if◌then◌else◌, ℕ, zero, suc, ◌||◌, List, [], ◌∷◌, leb, length, Option, None, Some}
 use Prim.Native.String.{String}
-use Rattle.std.proofs.Math.Option.{Option, none, some}
 use Rattle.lexis.specs.Text.{Text, bytes, same, trim, nowhere, at, cut}
 use Rattle.scalars.specs.Names.{scalar_name}
 use Rattle.meaning.specs.Parts.{each, bracketed, remove}
@@ -44,18 +43,18 @@ forms =
 -- a form that applies decides: where its content can't be read, no other form is tried; at last a bare scalar
 abbrev pub by_forms : List Form → Text → Option Found
 by_forms [] s = each (plain K.Scalar) (scalar_name s)
-by_forms (f ∷ fs) s = elim (bracketed (bytes f.opens) s) [ some t ↦ f.content t | none ↦ by_forms fs s ]
+by_forms (f ∷ fs) s = elim (bracketed (bytes f.opens) s) [ Some t ↦ f.content t | None ↦ by_forms fs s ]
 
 -- a trimmed text without marks
 unfoldable pub unmarked : Text → Option Found
-unmarked s = if same s (bytes "!cuda_tile.token") || same s (bytes "token") then some token else by_forms forms s
+unmarked s = if same s (bytes "!cuda_tile.token") || same s (bytes "token") then Some token else by_forms forms s
 
 unfoldable pub mark : Text
 mark = bytes ", #cuda_tile.ptr_attr<none>"
 
 -- trim; while the mark occurs, remove all and read again, at most n times
 abbrev pub passes : ℕ → Text → Option Found
-passes zero s = none
+passes zero s = None
 passes (suc n) s = elim (cut mark (trim s)) [ nowhere ↦ unmarked (trim s) | at u t ↦ each with_attribute (passes n (remove mark (trim s))) ]
 
 -- each pass shortens the text, so that its length is passes enough
@@ -66,8 +65,8 @@ parse s = passes (suc (length s)) s
 
 -- the place of the first byte of 128 or more, counted from k
 abbrev pub high_from : ℕ → Text → Option ℕ
-high_from k [] = none
-high_from k (b ∷ s) = if leb 128 b then some k else high_from (suc k) s
+high_from k [] = None
+high_from k (b ∷ s) = if leb 128 b then Some k else high_from (suc k) s
 
 -- the blank record and zero counts
 unfoldable pub refused : ℕ → Refusal → ℕ → Reading
@@ -77,12 +76,12 @@ unfoldable pub accepted : ℕ → Found → Reading
 accepted cap t = record { refusal = Accepted; place = 0; value = flat cap t; note = counts t }
 
 abbrev pub judged : ℕ → Option Found → Reading
-judged cap none = refused cap NoType 0
-judged cap (some t) = if within cap t then accepted cap t else refused cap TooMany 0
+judged cap None = refused cap NoType 0
+judged cap (Some t) = if within cap t then accepted cap t else refused cap TooMany 0
 
 abbrev pub read_ascii : ℕ → Text → Option ℕ → Reading
-read_ascii cap s (some place) = refused cap HighByte place
-read_ascii cap s none = judged cap (parse s)
+read_ascii cap s (Some place) = refused cap HighByte place
+read_ascii cap s None = judged cap (parse s)
 
 -- for lists of at most `cap` entries and texts of at most `size` bytes
 unfoldable pub ordinary : ℕ → ℕ → Text → Reading

@@ -1,13 +1,12 @@
 -- Parts, brackets and marks (01, modules 3, 4 and 7).
-use Rattle.std.specs.Prelude.{if◌then◌else◌, ℕ, zero, suc, ◌-◌, Bool, true, false, List, [], ◌∷◌, eqb, length}
+use Rattle.std.specs.Prelude.{if◌then◌else◌, ℕ, zero, suc, ◌-◌, Bool, true, false, List, [], ◌∷◌, eqb, length, Option, None, Some}
 use Prim.Native.Char.{code}
-use Rattle.std.proofs.Math.Option.{Option, none, some}
 use Rattle.lexis.specs.Text.{Text, begins, after, Cut, nowhere, at, later, cut}
 
 -- what is done to a value that may be lacking
 abbrev pub each : {A B : Type 0} → (A → B) → Option A → Option B
-each f none = none
-each f (some a) = some (f a)
+each f None = None
+each f (Some a) = Some (f a)
 
 -- ── parts of a text ──
 
@@ -33,27 +32,27 @@ between p q s = up_to q (cut p s)
 -- ── brackets (module 3) ──
 
 abbrev pub shallower : ℕ → Option ℕ
-shallower zero = none
-shallower (suc d) = some d
+shallower zero = None
+shallower (suc d) = Some d
 
 -- how many brackets stand open inside after the byte b; none: b closes the outer one
 abbrev pub depth : ℕ → ℕ → Option ℕ
-depth d b = if eqb b (code "<") then some (suc d) else if eqb b (code ">") then shallower d else some d
+depth d b = if eqb b (code "<") then Some (suc d) else if eqb b (code ">") then shallower d else Some d
 
 -- s, parted at the `>` that matches, with d more brackets open
 abbrev pub close : ℕ → Text → Cut
 close d [] = nowhere
-close d (b ∷ s) = elim (depth d b) [ none ↦ at [] s | some e ↦ later b (close e s) ]
+close d (b ∷ s) = elim (depth d b) [ None ↦ at [] s | Some e ↦ later b (close e s) ]
 
 -- s without the `>` at its end, if one stands there
 abbrev pub less_final : Text → Option Text
-less_final [] = none
-less_final (b ∷ []) = if eqb b (code ">") then some [] else none
+less_final [] = None
+less_final (b ∷ []) = if eqb b (code ">") then Some [] else None
 less_final (b ∷ c ∷ s) = each (λ t. b ∷ t) (less_final (c ∷ s))
 
 -- with no match, a final `>` is dropped; without one the form doesn't apply
 abbrev pub content_by : Text → Cut → Option Text
-content_by s (at u t) = some u
+content_by s (at u t) = Some u
 content_by s nowhere = less_final s
 
 abbrev pub content : Text → Option Text
@@ -61,7 +60,7 @@ content s = content_by s (close 0 s)
 
 -- the content of the form that opens with p, where that form applies
 abbrev pub bracketed : Text → Text → Option Text
-bracketed p s = if begins p s then content (after p s) else none
+bracketed p s = if begins p s then content (after p s) else None
 
 -- ── removing a text ──
 

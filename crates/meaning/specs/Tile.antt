@@ -1,8 +1,7 @@
 -- Tiles and tensor views (01, modules 4 and 5).
-use Rattle.std.specs.Prelude.{if◌then◌else◌, ℕ, ◌^◌, Bool, true, false, List, [], ◌∷◌, eqb, ℤ, pos, neg_ℤ, length, replicate}
+use Rattle.std.specs.Prelude.{if◌then◌else◌, ℕ, ◌^◌, Bool, true, false, List, [], ◌∷◌, eqb, ℤ, pos, neg_ℤ, length, replicate, Option, None, Some}
 use Prim.Native.Char.{code}
 use mathlib.Core.List as L
-use Rattle.std.proofs.Math.Option.{Option, none, some}
 use Rattle.lexis.specs.Text.{Text, bytes, same, trim, less_leading, less_trailing, split, Cut, nowhere, at, cut}
 use Rattle.numerals.specs.Numeral.{numeral}
 use Rattle.scalars.specs.Names.{scalar_name}
@@ -17,8 +16,8 @@ unfoldable pub DYNAMIC : ℤ
 DYNAMIC = neg_ℤ (pos (2 ^ 63))
 
 abbrev pub read_or : ℤ → Option ℤ → Entry
-read_or d none = as_fallen d
-read_or d (some z) = as_read z
+read_or d None = as_fallen d
+read_or d (Some z) = as_read z
 
 -- an entry of a shape or of strides: `?` or an unreadable numeral gives DYNAMIC (module 1, `parse_dim`)
 unfoldable pub dimension : Text → Entry
@@ -39,7 +38,7 @@ before_pointer (b ∷ s) = split (code "x") (less_trailing (eqb (code "x")) (b �
 
 -- the pointee ends at the next `>`
 abbrev pub pointee : Cut → Option Scalar
-pointee nowhere = none
+pointee nowhere = None
 pointee (at u t) = scalar_name u
 
 -- by the first `ptr<`
@@ -63,8 +62,8 @@ stride_parts s = split (code ",") (less_trailing (eqb (code "]")) (less_leading 
 
 -- without the clause, one DYNAMIC per dimension
 abbrev pub strides_of : ℕ → Option Text → Clause
-strides_of rank none = filled (replicate rank DYNAMIC)
-strides_of rank (some s) = dimensions (stride_parts s)
+strides_of rank None = filled (replicate rank DYNAMIC)
+strides_of rank (Some s) = dimensions (stride_parts s)
 
 abbrev pub tensor_of : List Text → Option Text → Scalar → Tensor
 tensor_of dims strides e = record { element = e; shape = dimensions dims; strides = strides_of (length dims) strides }
@@ -75,9 +74,9 @@ tensor_parts s strides = each (tensor_of (front (split (code "x") s)) strides) (
 
 -- by the first `, strides=`; if there is none, by the first `,strides=`
 abbrev pub tensor_by : Text → Cut → Cut → Option Tensor
-tensor_by s (at u t) c = tensor_parts u (some t)
-tensor_by s nowhere (at u t) = tensor_parts u (some t)
-tensor_by s nowhere nowhere = tensor_parts s none
+tensor_by s (at u t) c = tensor_parts u (Some t)
+tensor_by s nowhere (at u t) = tensor_parts u (Some t)
+tensor_by s nowhere nowhere = tensor_parts s None
 
 unfoldable pub tensor : Text → Option Tensor
 tensor s = tensor_by s (cut (bytes ", strides=") s) (cut (bytes ",strides=") s)

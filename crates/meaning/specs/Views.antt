@@ -1,8 +1,7 @@
 -- The three views (01, module 6).
-use Rattle.std.specs.Prelude.{if◌then◌else◌, ℕ, zero, suc, ◌+◌, Bool, false, ◌||◌, ◌&&◌, not, List, [], ◌∷◌, eqb, ℤ, pos, length, replicate}
+use Rattle.std.specs.Prelude.{if◌then◌else◌, ℕ, zero, suc, ◌+◌, Bool, false, ◌||◌, ◌&&◌, not, List, [], ◌∷◌, eqb, ℤ, pos, length, replicate, Option, None, Some}
 use Prim.Native.Char.{code}
 use mathlib.Core.List as L
-use Rattle.std.proofs.Math.Option.{Option, none, some}
 use Rattle.lexis.specs.Text.{Text, bytes, trim, until, split, Cut, nowhere, at, cut, occurs}
 use Rattle.numerals.specs.Numeral.{numeral}
 use Rattle.meaning.specs.Parts.{each, between, close}
@@ -26,7 +25,7 @@ tile_entries s = L.map (small (pos 1)) (split (if occurs (bytes "x") s then code
 infixr 25 ◌or◌
 -- what follows a first occurrence, or else another way
 abbrev pub ◌or◌ : Cut → Option Text → Option Text
-(at u t) or o = some t
+(at u t) or o = Some t
 nowhere or o = o
 
 -- where the inner tensor view opens; `behind` is what follows the tile's `)`
@@ -34,7 +33,7 @@ unfoldable pub opened : Text → Text → Option Text
 opened s behind =
     cut (bytes "tensor_view=!cuda_tile.tensor_view<") s or
     cut (bytes "!cuda_tile.tensor_view<") s or
-    cut (bytes "tensor_view<") behind or none
+    cut (bytes "tensor_view<") behind or None
 
 -- without a matching `>` the content is empty
 abbrev pub enclosed : Cut → Text
@@ -42,8 +41,8 @@ enclosed (at u t) = u
 enclosed nowhere = []
 
 abbrev pub inner_by : Option Text → Option Tensor
-inner_by none = none
-inner_by (some t) = tensor (enclosed (close 0 t))
+inner_by None = None
+inner_by (Some t) = tensor (enclosed (close 0 t))
 
 -- looked for only if `padding_value` occurs, and anywhere in the part
 unfoldable pub padding : Text → Padding
@@ -63,7 +62,7 @@ pub record View : Type 0 where
 
 -- by the first `tile=(` and the next `)`
 abbrev pub view_by : Text → Cut → Option View
-view_by s nowhere = none
+view_by s nowhere = None
 view_by s (at u behind) = each (λ v. record { tile = tile_entries u; tensor = v; padding = padding s }) (inner_by (opened s behind))
 
 unfoldable pub view : Text → Option View
@@ -126,13 +125,13 @@ view_of k map traversal sparse v =
 
 -- an unclosed list refuses a partition view
 abbrev pub partition_by : View → Listed → Option Found
-partition_by v absent = some (view_of K.Partition (own_map v) unused unused v)
-partition_by v unclosed = none
-partition_by v (listed s) = some (view_of K.Partition (entries s) unused unused v)
+partition_by v absent = Some (view_of K.Partition (own_map v) unused unused v)
+partition_by v unclosed = None
+partition_by v (listed s) = Some (view_of K.Partition (entries s) unused unused v)
 
 abbrev pub partition_from : Listed → Option View → Option Found
-partition_from l none = none
-partition_from l (some v) = partition_by v l
+partition_from l None = None
+partition_from l (Some v) = partition_by v l
 
 unfoldable pub partition_view : Text → Option Found
 partition_view s = partition_from (list_after (bytes "dim_map=[") s) (view s)

@@ -1,7 +1,6 @@
 -- Written text (01, "Written text"): the text of a record's plain form, so that being strict holds by construction; which
 -- records have none; and what the writer answers and leaves in the room.
-use Rattle.std.specs.Prelude.{if◌then◌else◌, ℕ, ◌-◌, ◌^◌, Bool, true, false, List, [], ◌∷◌, ◌++◌, map, eqb, leb, ℤ, pos, negsuc, length, take, drop}
-use Rattle.std.proofs.Math.Option.{Option, none, some}
+use Rattle.std.specs.Prelude.{if◌then◌else◌, ℕ, ◌-◌, ◌^◌, Bool, true, false, List, [], ◌∷◌, ◌++◌, map, eqb, leb, ℤ, pos, negsuc, length, take, drop, Option, None, Some}
 use Rattle.lexis.specs.Text.{Text}
 use Rattle.scalars.specs.declared.scalar.Scalar.{Scalar}
 use Rattle.scalars.specs.declared.scalar.Scalar.TheVariants.{I1, I4, I8, I16, I32, I64, F16, BF16, F32, TF32, F64, F8E4M3FN, F8E5M2, F8E8M0FNU, F4E2M1FN, F8E5M3FNU}
@@ -21,12 +20,12 @@ use Rattle.meaning.specs.Strict.{Name, Commas, Entries, by_x, Strides, Pads, Ten
 
 infixl 20 ◌>>=◌
 abbrev pub ◌>>=◌ : {A B : Type 0} → Option A → (A → Option B) → Option B
-none >>= f = none
-some a >>= f = f a
+None >>= f = None
+Some a >>= f = f a
 
 abbrev pub unless : {A : Type 0} → Bool → A → Option A
-unless true a = none
-unless false a = some a
+unless true a = None
+unless false a = Some a
 
 -- ── the choices: first spellings, no space inside lists ──
 
@@ -67,18 +66,18 @@ dimension_of z = if unknown z then dynamic else known z
 
 -- an empty list has no text
 abbrev pub listed : {A : Type 0} → (ℤ → A) → List ℤ → Option (Commas A)
-listed f [] = none
-listed f (z ∷ zs) = some (record { head = f z; tail = map (λ (z : ℤ). record { space = false; entry = f z }) zs })
+listed f [] = None
+listed f (z ∷ zs) = Some (record { head = f z; tail = map (λ (z : ℤ). record { space = false; entry = f z }) zs })
 
 -- tile entries are parted by `x`
 abbrev pub x_joined : List ℤ → Option Entries
-x_joined [] = none
-x_joined (z ∷ zs) = some (by_x z zs)
+x_joined [] = None
+x_joined (z ∷ zs) = Some (by_x z zs)
 
 -- strides are present unless empty; empty strides with a shape have no text
 abbrev pub strides_of : List ℤ → List ℤ → Option Strides
-strides_of [] [] = some S.Strides.absent
-strides_of (d ∷ ds) [] = none
+strides_of [] [] = Some S.Strides.absent
+strides_of (d ∷ ds) [] = None
 strides_of ds (z ∷ zs) = each (S.Strides.given true) (listed dimension_of (z ∷ zs))
 
 -- ── a record's lists, and the parts of its form ──
@@ -110,7 +109,7 @@ abbrev pub view_of : Padding → List ℤ → Option Tensor → Option View
 view_of p ts o =
     x_joined ts >>= λ e.
     o >>= λ t.
-    some (record { front = true; tile = e; space = true; padding = pads_of p; intro = S.bare; tensor = t; space' = true })
+    Some (record { front = true; tile = e; space = true; padding = pads_of p; intro = S.bare; tensor = t; space' = true })
 
 abbrev pub tensor_in : Record → Option Tensor
 tensor_in r = tensor_of r.element r.attribute (shape_in r) (strides_in r)
@@ -122,9 +121,9 @@ view_in r = view_of r.padding (tile_in r) (tensor_in r)
 
 abbrev pub form_as : Kind → Record → Option Form
 form_as K.Scalar r = unless r.attribute (S.scalar (first r.element))
-form_as K.Pointer r = some (S.ptr (pointer_of r))
+form_as K.Pointer r = Some (S.ptr (pointer_of r))
 form_as K.Tile r =
-    if r.pointer then some (S.tile true (map dimension_of (shape_in r)) (S.pointer (pointer_of r)))
+    if r.pointer then Some (S.tile true (map dimension_of (shape_in r)) (S.pointer (pointer_of r)))
     else unless r.attribute (S.tile true (map dimension_of (shape_in r)) (S.plain (first r.element)))
 form_as K.TensorView r = each (S.tensor true) (tensor_in r)
 form_as K.Partition r = view_in r >>= λ v. each (S.partition v) (listed (λ z. z) (map_in r))
@@ -161,8 +160,8 @@ laid_in room t =
     else refused RoomShort room
 
 abbrev pub texted : Option Text → Text → Outcome
-texted none room = refused NoText room
-texted (some t) room = laid_in room t
+texted None room = refused NoText room
+texted (Some t) room = laid_in room t
 
 unfoldable pub writing : ℕ → Record → Text → Outcome
 writing cap r room = if normal cap r then texted (written r) room else refused NotNormal room

@@ -3,7 +3,7 @@ use Prim.Native.Nat.{ℕ, zero, suc, ◌+◌}
 use native.Mathlib.Omega.{arith}
 use mathlib.Core.Bool.{Bool, true, false, ◌&&◌}
 use mathlib.Core.List.{List, [], ◌∷◌}
-use mathlib.Core.Option.{Option, none, some}
+use Rattle.std.specs.Prelude.{Option, None, Some}
 use mathlib.Core.Path.{◌≡◌, refl, subst}
 use lib.Dec.{T, eqb, eqb→eq}
 use Rattle.scalars.specs.declared.scalar.Scalar.{Scalar}
@@ -18,7 +18,7 @@ use Rattle.numbers.specs.declared.TypetextRecord.{TypetextRecord}
 use Rattle.numbers.specs.Numbers.{kind_number, scalar_number, padding_number, flag_number, nth, kinds, scalars, paddings, flags, kind_of, scalar_of, padding_of, flag_of, in_numbers, record_numbers, of_numbers}
 use Rattle.numbers.proofs.Records.{five, built}
 
-kind_back : (k : Kind) → kind_of (kind_number k) ≡ some k
+kind_back : (k : Kind) → kind_of (kind_number k) ≡ Some k
 kind_back K.Scalar = refl
 kind_back K.Pointer = refl
 kind_back K.Tile = refl
@@ -28,7 +28,7 @@ kind_back K.GatherScatter = refl
 kind_back K.Strided = refl
 kind_back K.Token = refl
 
-scalar_back : (s : Scalar) → scalar_of (scalar_number s) ≡ some s
+scalar_back : (s : Scalar) → scalar_of (scalar_number s) ≡ Some s
 scalar_back I1 = refl
 scalar_back I4 = refl
 scalar_back I8 = refl
@@ -46,7 +46,7 @@ scalar_back F8E8M0FNU = refl
 scalar_back F4E2M1FN = refl
 scalar_back F8E5M3FNU = refl
 
-padding_back : (p : Padding) → padding_of (padding_number p) ≡ some p
+padding_back : (p : Padding) → padding_of (padding_number p) ≡ Some p
 padding_back Absent = refl
 padding_back Zero = refl
 padding_back NegZero = refl
@@ -54,16 +54,16 @@ padding_back Nan = refl
 padding_back PosInf = refl
 padding_back NegInf = refl
 
-flag_back : (b : Bool) → flag_of (flag_number b) ≡ some b
+flag_back : (b : Bool) → flag_of (flag_number b) ≡ Some b
 flag_back false = refl
 flag_back true = refl
 
-pub record_back : (r : Record) → of_numbers (record_numbers r) ≡ some r
+pub record_back : (r : Record) → of_numbers (record_numbers r) ≡ Some r
 unfolding of_numbers record_numbers
 record_back r = rw (kind_back r.kind, scalar_back r.element, padding_back r.padding, flag_back r.pointer, flag_back r.attribute)
 
 -- what a reader answered
-pub reading_back : (r : Reading) → of_numbers (in_numbers r).value ≡ some r.value
+pub reading_back : (r : Reading) → of_numbers (in_numbers r).value ≡ Some r.value
 unfolding in_numbers
 reading_back r = record_back r.value
 
@@ -74,8 +74,8 @@ placed f k [] = true
 placed f k (x ∷ xs) = eqb (f x) k && placed f (suc k) xs
 
 abbrev Numbered : {A : Type 0} → (A → ℕ) → ℕ → Option A → Type 0
-Numbered f n none = Unit {0}
-Numbered f n (some x) = f x ≡ n
+Numbered f n None = Unit {0}
+Numbered f n (Some x) = f x ≡ n
 
 both : (a b : Bool) → T (a && b) → T a × T b
 both true b h = (tt, h)
@@ -94,19 +94,19 @@ from_zero f xs n h =
     subst (λ (m : ℕ). Numbered f m (nth xs n)) p (place f xs 0 n h)
 
 abbrev Only : TypetextRecord → Option Record → Type 0
-Only n none = Unit {0}
-Only n (some r) = record_numbers r ≡ n
+Only n None = Unit {0}
+Only n (Some r) = record_numbers r ≡ n
 
 only_five : (n : TypetextRecord) (k : Option Kind) (e : Option Scalar) (p : Option Padding) (f m : Option Bool)
     → Numbered kind_number n.kind k → Numbered scalar_number n.element e → Numbered padding_number n.padding p → Numbered flag_number n.pointer f → Numbered flag_number n.attribute m
     → Only n (five (built n) k e p f m)
 unfolding record_numbers
-only_five n none e p f m a b c d g = tt
-only_five n (some k) none p f m a b c d g = tt
-only_five n (some k) (some e) none f m a b c d g = tt
-only_five n (some k) (some e) (some p) none m a b c d g = tt
-only_five n (some k) (some e) (some p) (some f) none a b c d g = tt
-only_five n (some k) (some e) (some p) (some f) (some m) a b c d g = λ i. record {
+only_five n None e p f m a b c d g = tt
+only_five n (Some k) None p f m a b c d g = tt
+only_five n (Some k) (Some e) None f m a b c d g = tt
+only_five n (Some k) (Some e) (Some p) None m a b c d g = tt
+only_five n (Some k) (Some e) (Some p) (Some f) None a b c d g = tt
+only_five n (Some k) (Some e) (Some p) (Some f) (Some m) a b c d g = λ i. record {
   shape_len = n.shape_len;
   strides_len = n.strides_len;
   tile_len = n.tile_len;

@@ -4,7 +4,7 @@ use types.Run.{OneOf}
 use native.Mathlib.Omega.{arith}
 use mathlib.Core.Bool.{Bool, true, false}
 use mathlib.Core.List.{List, [], ◌∷◌}
-use mathlib.Core.Option.{Option, none, some}
+use Rattle.std.specs.Prelude.{Option, None, Some}
 use mathlib.Core.Path.{◌≡◌, refl, sym, subst, ◌∙◌}
 use lib.Dec.{eqb, ltb, leb-suc-suc}
 use lib.ListN.{length}
@@ -13,7 +13,7 @@ use mir.Val.{bool_byte}
 use Rattle.numbers.specs.Numbers.{flag_number, nth, given, Value}
 
 module _ {A : Type 0} where
-  pub beyond : (xs : List A) (n : ℕ) → length xs ≤ n → nth xs n ≡ none
+  pub beyond : (xs : List A) (n : ℕ) → length xs ≤ n → nth xs n ≡ None
   beyond [] n h = refl
   beyond (x ∷ xs) zero h = let f : ⊥ = omega (arith, h) in absurd f
   beyond (x ∷ xs) (suc n) h = beyond xs n (omega (arith, h))
@@ -23,11 +23,11 @@ module _ {A : Type 0} where
   within (x ∷ xs) zero = sym (lt-ltb 0 (length (x ∷ xs)) (omega arith))
   within (x ∷ xs) (suc n) = within xs n ∙ sym (leb-suc-suc (suc n) (length xs))
 
-  pub hit : (xs : List A) {n k : ℕ} {x : A} → n ≡ k → nth xs k ≡ some x → Value (nth xs n) x
-  hit xs {x = x} p e = subst (λ (o : Option A). Value o x) (sym (subst (λ (m : ℕ). nth xs m ≡ some x) (sym p) e)) refl
+  pub hit : (xs : List A) {n k : ℕ} {x : A} → n ≡ k → nth xs k ≡ Some x → Value (nth xs n) x
+  hit xs {x = x} p e = subst (λ (o : Option A). Value o x) (sym (subst (λ (m : ℕ). nth xs m ≡ Some x) (sym p) e)) refl
 
   -- the last case stands for every number past it
-  pub last : (xs : List A) {n k : ℕ} {x : A} → k ≤ n → length xs ≡ suc k → nth xs k ≡ some x → Value (nth xs n) x
+  pub last : (xs : List A) {n k : ℕ} {x : A} → k ≤ n → length xs ≡ suc k → nth xs k ≡ Some x → Value (nth xs n) x
   last xs {n} {k} {x} h l e = by (eqb n k) refl
     where
       by : (t : Bool) → eqb n k ≡ t → Value (nth xs n) x

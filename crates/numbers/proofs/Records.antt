@@ -1,7 +1,7 @@
 -- Records from their numbers: whether there is one, and which.
 use Prim.Native.Nat.{ℕ, zero, suc}
 use mathlib.Core.Bool.{Bool, true, false, ◌&&◌, true≢false, false≢true}
-use mathlib.Core.Option.{Option, none, some}
+use Rattle.std.specs.Prelude.{Option, None, Some}
 use mathlib.Core.Path.{◌≡◌, refl, sym, ap, ◌∙◌}
 use lib.Dec.{eqb, ltb}
 use Rattle.scalars.specs.declared.scalar.Scalar.{Scalar}
@@ -19,23 +19,23 @@ abbrev pub Five : Type 0
 Five = Kind → Scalar → Padding → Bool → Bool → Record
 
 abbrev pub five : Five → Option Kind → Option Scalar → Option Padding → Option Bool → Option Bool → Option Record
-five F k e p f m = k >>= λ k. e >>= λ e. p >>= λ p. f >>= λ f. m >>= λ m. some (F k e p f m)
+five F k e p f m = k >>= λ k. e >>= λ e. p >>= λ p. f >>= λ f. m >>= λ m. Some (F k e p f m)
 
 five_given : (F : Five) (k : Option Kind) (e : Option Scalar) (p : Option Padding) (f m : Option Bool) → given k && given e && given p && given f && given m ≡ given (five F k e p f m)
-five_given F none e p f m = refl
-five_given F (some k) none p f m = refl
-five_given F (some k) (some e) none f m = refl
-five_given F (some k) (some e) (some p) none m = refl
-five_given F (some k) (some e) (some p) (some f) none = refl
-five_given F (some k) (some e) (some p) (some f) (some m) = refl
+five_given F None e p f m = refl
+five_given F (Some k) None p f m = refl
+five_given F (Some k) (Some e) None f m = refl
+five_given F (Some k) (Some e) (Some p) None m = refl
+five_given F (Some k) (Some e) (Some p) (Some f) None = refl
+five_given F (Some k) (Some e) (Some p) (Some f) (Some m) = refl
 
 five_value : (F : Five) (k : Option Kind) (e : Option Scalar) (p : Option Padding) (f m : Option Bool) (k' : Kind) (e' : Scalar) (p' : Padding) (f' m' : Bool) → Value k k' → Value e e' → Value p p' → Value f f' → Value m m' → Value (five F k e p f m) (F k' e' p' f' m')
-five_value F none e p f m k' e' p' f' m' a b c d g = tt
-five_value F (some k) none p f m k' e' p' f' m' a b c d g = tt
-five_value F (some k) (some e) none f m k' e' p' f' m' a b c d g = tt
-five_value F (some k) (some e) (some p) none m k' e' p' f' m' a b c d g = tt
-five_value F (some k) (some e) (some p) (some f) none k' e' p' f' m' a b c d g = tt
-five_value F (some k) (some e) (some p) (some f) (some m) k' e' p' f' m' a b c d g = λ i. F (a i) (b i) (c i) (d i) (g i)
+five_value F None e p f m k' e' p' f' m' a b c d g = tt
+five_value F (Some k) None p f m k' e' p' f' m' a b c d g = tt
+five_value F (Some k) (Some e) None f m k' e' p' f' m' a b c d g = tt
+five_value F (Some k) (Some e) (Some p) None m k' e' p' f' m' a b c d g = tt
+five_value F (Some k) (Some e) (Some p) (Some f) None k' e' p' f' m' a b c d g = tt
+five_value F (Some k) (Some e) (Some p) (Some f) (Some m) k' e' p' f' m' a b c d g = λ i. F (a i) (b i) (c i) (d i) (g i)
 
 -- the record of five cases and what else is sent
 abbrev pub built : TypetextRecord → Five
@@ -76,9 +76,9 @@ record_value n = five_value (built n) (kind_of n.kind) (scalar_of n.element) (pa
 -- ── the answer ──
 
 pub no_record : (o : Option Record) (r : Record) → given o ≡ false → r ≡ flat 8 token → record { known = false; value = r } ≡ sent o
-no_record none r h e = ap (λ (v : Record). record { known = false; value = v }) e
-no_record (some a) r h e = absurd (true≢false h)
+no_record None r h e = ap (λ (v : Record). record { known = false; value = v }) e
+no_record (Some a) r h e = absurd (true≢false h)
 
 pub the_record : (o : Option Record) (r : Record) → given o ≡ true → Value o r → record { known = true; value = r } ≡ sent o
-the_record none r h v = absurd (false≢true h)
-the_record (some a) r h v = ap (λ (v : Record). record { known = true; value = v }) v
+the_record None r h v = absurd (false≢true h)
+the_record (Some a) r h v = ap (λ (v : Record). record { known = true; value = v }) v

@@ -1,6 +1,5 @@
 -- Readings and records in numbers, as they cross to C (docs/ABI.md), and back: kinds, scalars and paddings in document 01's order.
-use Rattle.std.specs.Prelude.{ℕ, zero, suc, Bool, true, false, List, [], ◌∷◌, ◌≡◌}
-use Rattle.std.proofs.Math.Option.{Option, none, some}
+use Rattle.std.specs.Prelude.{ℕ, zero, suc, Bool, true, false, List, [], ◌∷◌, ◌≡◌, Option, None, Some}
 use Rattle.scalars.specs.declared.scalar.Scalar.{Scalar}
 use Rattle.scalars.specs.declared.scalar.Scalar.TheVariants.{I1, I4, I8, I16, I32, I64, F16, BF16, F32, TF32, F64, F8E4M3FN, F8E5M2, F8E8M0FNU, F4E2M1FN, F8E5M3FNU}
 use Rattle.meaning.specs.Refusals.{number}
@@ -96,8 +95,8 @@ in_numbers r = record {
 
 -- the n-th, from 0
 abbrev pub nth : {A : Type 0} → List A → ℕ → Option A
-nth [] n = none
-nth (x ∷ xs) zero = some x
+nth [] n = None
+nth (x ∷ xs) zero = Some x
 nth (x ∷ xs) (suc n) = nth xs n
 
 abbrev pub kinds : List Kind
@@ -132,7 +131,7 @@ of_numbers n =
     padding_of n.padding >>= λ padding.
     flag_of n.pointer >>= λ pointer.
     flag_of n.attribute >>= λ attribute.
-    some (record {
+    Some (record {
       kind = kind;
       element = element;
       pointer = pointer;
@@ -153,16 +152,16 @@ of_numbers n =
 
 -- what is answered: the record, or that there is none, beside a blank one
 abbrev pub sent : Option Record → Sent
-sent (some r) = record { known = true; value = r }
-sent none = record { known = false; value = flat 8 token }
+sent (Some r) = record { known = true; value = r }
+sent None = record { known = false; value = flat 8 token }
 
 -- ── for the private contracts ──
 
 abbrev pub given : {A : Type 0} → Option A → Bool
-given none = false
-given (some a) = true
+given None = false
+given (Some a) = true
 
 -- the value, where there is one
 abbrev pub Value : {A : Type 0} → Option A → A → Type 0
-Value none x = Unit {0}
-Value (some a) x = x ≡ a
+Value None x = Unit {0}
+Value (Some a) x = x ≡ a

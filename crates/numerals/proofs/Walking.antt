@@ -1,19 +1,19 @@
 -- Laws of a part that is walked once: white bytes, a sign, digits up to a byte that passes a test p, which none of these passes.
 -- What is passed is left out of the part's length, of its trimmed text and of its number.
-use Rattle.std.specs.Prelude.{if◌then◌else◌}
+use Rattle.std.specs.Prelude.{if◌then◌else◌, Option, None, Some, option_map, IfSome}
 use mathlib.Core.Path.{◌≡◌, refl, sym, ap, subst, ◌∙◌}
 use mathlib.Core.Bool.{Bool, true, false, ◌&&◌, ◌||◌, not, false≢true}
 use mathlib.Core.List.{[], ◌∷◌}
-use mathlib.Core.Option.{none, some}
 use Prim.Native.Nat.{ℕ, ◌+◌, ◌-◌, ◌*◌, ◌^◌, ◌≤◌, ◌<◌}
 use native.Mathlib.Omega.{arith}
 use borrow.Author.Tests.{eqb-true, eqb-false, ltb-true, leb-true, leb-false, ne_eqb, le-leb, lt-leb}
 use lib.Dec.{eqb, leb, ltb}
 use lib.IntN.{pos}
 use lib.ListN.{length, take, drop, get_or, drop_of_length-le, get_or-eq_default}
-use Rattle.lexis.specs.Text.{Text, until, less_trailing, unless_last, white, trim}
+use Rattle.lexis.specs.Text.{Text, ink, until, less_trailing, unless_last, white, trim}
 use Rattle.numerals.specs.Numeral.{digit, number_from, number, at_most, minus, numeral}
-use Rattle.numerals.specs.Parts.{ink, apart, odd}
+use Rattle.numerals.specs.Parts.{apart, odd, Said}
+use Rattle.numerals.proofs.Numbers.{absent}
 use Rattle.lexis.proofs.Lists.{view}
 use Rattle.lexis.proofs.Seeking.{never, until_step, until_stop, until_here, until_take}
 
@@ -36,7 +36,7 @@ odd_byte b e = by (white b) (ltb b 48) (ltb 57 b) (ltb-true b 48) (ltb-true 57 b
     by false false true p q e = (refl, ap (λ (z : Bool). leb 48 b && z) (lt-leb b 57 (q refl)) ∙ never (leb 48 b))
     by false false false p q e = absurd (false≢true e)
 
-no_number : (u : Text) → number_from 0 u ≡ none → number u ≡ none
+no_number : (u : Text) → number_from 0 u ≡ None → number u ≡ None
 no_number [] e = refl
 no_number (b ∷ u) e = e
 
@@ -141,24 +141,24 @@ module _ {p : ℕ → Bool} (q : Quiet p) where
         }
 
     ended : until p (drop i s) ≡ [] → (i ≡ k → ⊥)
-        → (i ≡ k + length (until p (drop k s))) × (number (until p (drop k s)) ≡ some n)
+        → (i ≡ k + length (until p (drop k s))) × (number (until p (drop k s)) ≡ Some n)
     ended e m =
         let l : k + length (until p (drop k s)) ≡ i + 0 = g.len ∙ ap (λ (v : Text). i + length v) e in
         (omega arith, by (until p (drop k s)) (omega (arith, g.onward)) (g.same ∙ ap (number_from n) e))
       where
-        by : (u : Text) → 0 < length u → number_from 0 u ≡ some n → number u ≡ some n
+        by : (u : Text) → 0 < length u → number_from 0 u ≡ Some n → number u ≡ Some n
         by [] h e = let f : ⊥ = omega arith in absurd f
         by (b ∷ u) h e = e
 
-    pub at_end : length s ≤ i → (i ≡ k → ⊥) → (i ≡ k + length (until p (drop k s))) × (number (until p (drop k s)) ≡ some n)
+    pub at_end : length s ≤ i → (i ≡ k → ⊥) → (i ≡ k + length (until p (drop k s))) × (number (until p (drop k s)) ≡ Some n)
     at_end h = ended (rw (drop_of_length-le s h))
 
-    pub at_next : p (get_or s i 0) ≡ true → (i ≡ k → ⊥) → (i ≡ k + length (until p (drop k s))) × (number (until p (drop k s)) ≡ some n)
+    pub at_next : p (get_or s i 0) ≡ true → (i ≡ k → ⊥) → (i ≡ k + length (until p (drop k s))) × (number (until p (drop k s)) ≡ Some n)
     at_next e = ended (until_here p s i e)
 
     -- an odd byte next: the part is no number, trimmed
     pub at_odd : i < length s → p (get_or s i 0) ≡ false → odd (get_or s i 0) ≡ true → (i ≡ k → ⊥) → {e : ℕ} → e ≡ i + length (until p (drop i s))
-        → (e ≡ k + length (until p (drop k s))) × (number (less_trailing white (until p (drop k s))) ≡ none) × (48 ≤ get_or (drop k s) 0 0)
+        → (e ≡ k + length (until p (drop k s))) × (number (less_trailing white (until p (drop k s))) ≡ None) × (48 ≤ get_or (drop k s) 0 0)
     at_odd h d o m v =
         let b = get_or s i 0 in
         let e : until p (drop i s) ≡ b ∷ until p (drop (i + 1) s) = rw (view s i h, d) in
@@ -170,10 +170,22 @@ module _ {p : ℕ → Bool} (q : Quiet p) where
           rw (view s k (omega (arith, g.onward))) (g.lead m),
         )
 
-  pub zero_more : {s : Text} {k i : ℕ} → Running p s k i 0 → i < length s → get_or s i 0 ≡ 48 → Running p s k (i + 1) 0
-  zero_more {s} {k} {i} g h e =
-      let z : 0 * 10 + (get_or s i 0 - 48) ≡ 0 = omega arith in
-      subst (λ (m : ℕ). Running p s k (i + 1) m) z (step g refl h (omega arith) (omega arith))
+  -- one digit more, by what is left of the text
+  pub passes : {s : Text} {k n : ℕ} {r t : Text} {b d : ℕ} → Running p s k (length s - length r) n → n < 2 ^ 63 → r ≡ drop (length s - length r) s → length r ≤ length s
+      → r ≡ b ∷ t → n ≤ 922337203685477579 → 48 ≤ b → b ≤ 57 → d ≡ b - 48
+      → Running p s k (length s - length t) (n * 10 + d) × (n * 10 + d < 2 ^ 63) × (t ≡ drop (length s - length t) s) × (length t ≤ length s)
+  passes {s} {k} {n} {r} {t} {b} {d} g small here inside e h l u v =
+      let i = length s - length r in
+      let j = length s - length t in
+      let m : length r ≡ length t + 1 = ap length e ∙ omega arith in
+      let o : j ≡ i + 1 = omega arith in
+      let w : i < length s = omega arith in
+      let f : b ∷ t ≡ get_or s i 0 ∷ drop (i + 1) s = sym e ∙ here ∙ view s i w in (
+        subst (λ (x : ℕ). Running p s k x (n * 10 + d)) (sym o) (subst (λ (y : ℕ). Running p s k (i + 1) (n * 10 + y)) (sym v) (step g (ap (λ (z : Text). get_or z 0 0) f) w l u)),
+        omega arith,
+        ap (drop 1) f ∙ ap (λ (x : ℕ). drop x s) (sym o),
+        omega arith,
+      )
 
 -- ── what the trimmed part is ──
 
@@ -188,16 +200,13 @@ is_digit b e = by (leb 48 b) (leb b 57) (leb-true 48 b) (leb-true b 57) e
     by true d p q e = record { low = p refl; high = q e }
     by false d p q e = absurd (false≢true e)
 
-pub absent : {A : Type 0} {n : A} → none ≡ some n → ⊥
-absent e = let z : ◌≡◌ {A = ℕ} 0 1 = cc in omega arith
-
 -- digits have nothing to trim
-tight : (m : ℕ) (u : Text) {n : ℕ} → number_from m u ≡ some n → less_trailing white u ≡ u
+tight : (m : ℕ) (u : Text) {n : ℕ} → number_from m u ≡ Some n → less_trailing white u ≡ u
 tight m [] e = refl
 tight m (b ∷ u) {n} e = by (digit b) (is_digit b) (tight (m * 10 + (b - 48)) u) e
   where
-    by : (d : Bool) → (d ≡ true → Digit b) → (number_from (m * 10 + (b - 48)) u ≡ some n → less_trailing white u ≡ u)
-        → if d then number_from (m * 10 + (b - 48)) u else none ≡ some n → less_trailing white (b ∷ u) ≡ b ∷ u
+    by : (d : Bool) → (d ≡ true → Digit b) → (number_from (m * 10 + (b - 48)) u ≡ Some n → less_trailing white u ≡ u)
+        → if d then number_from (m * 10 + (b - 48)) u else None ≡ Some n → less_trailing white (b ∷ u) ≡ b ∷ u
     by true g r e = ap (unless_last white b) (r e) ∙ kept b u (black b (let h = (g refl).low in omega arith))
     by false g r e = absurd (absent e)
 
@@ -216,18 +225,18 @@ behind p s i e h f = rw (view s i (seen s i e h), e, f)
 -- ── what it says as a numeral ──
 
 module _ (w : ℕ) where
-  plain : (u : Text) {n : ℕ} → number u ≡ some n → n ≤ 2 ^ (w - 1) - 1 → numeral w (trim u) ≡ some (pos n)
+  plain : (u : Text) {n : ℕ} → number u ≡ Some n → n ≤ 2 ^ (w - 1) - 1 → numeral w (trim u) ≡ Some (pos n)
   plain [] e h = absurd (absent e)
   plain (b ∷ u) {n} e h = by (digit b) (is_digit b) (tight 0 (b ∷ u) e) e
     where
       by : (d : Bool) → (d ≡ true → Digit b) → less_trailing white (b ∷ u) ≡ b ∷ u
-          → if d then number_from (0 * 10 + (b - 48)) u else none ≡ some n → numeral w (trim (b ∷ u)) ≡ some (pos n)
+          → if d then number_from (0 * 10 + (b - 48)) u else None ≡ Some n → numeral w (trim (b ∷ u)) ≡ Some (pos n)
       by true g r q =
           let k = (g refl).low in
           rw (black b (omega arith), r, ne_eqb b 45 (λ m. omega arith), ne_eqb b 43 (λ m. omega arith), e, le-leb n (2 ^ (w - 1) - 1) h)
       by false g r q = absurd (absent q)
 
-  signed : (u : Text) {n : ℕ} → number u ≡ some n → n ≤ 2 ^ (w - 1) → numeral w (trim (45 ∷ u)) ≡ some (minus n)
+  signed : (u : Text) {n : ℕ} → number u ≡ Some n → n ≤ 2 ^ (w - 1) → numeral w (trim (45 ∷ u)) ≡ Some (minus n)
   signed [] e h = absurd (absent e)
   signed (b ∷ u) {n} e h = rw (tight 0 (b ∷ u) e, e, le-leb n (2 ^ (w - 1)) h)
 
@@ -245,10 +254,10 @@ module _ (w : ℕ) where
   behind_minus : (u : Text) → numeral w (trim (45 ∷ u)) ≡ at_most (2 ^ (w - 1)) minus (number (less_trailing white u))
   behind_minus u = rw (kept 45 (less_trailing white u) refl)
 
-  strange : (p : ℕ → Bool) (b : ℕ) (t : Text) → 57 < b → numeral w (trim (until p (b ∷ t))) ≡ none
+  strange : (p : ℕ → Bool) (b : ℕ) (t : Text) → 57 < b → numeral w (trim (until p (b ∷ t))) ≡ None
   strange p b t h = by (p b)
     where
-      by : (d : Bool) → numeral w (trim (if d then [] else b ∷ until p t)) ≡ none
+      by : (d : Bool) → numeral w (trim (if d then [] else b ∷ until p t)) ≡ None
       by true = refl
       by false =
           let k = kept b (less_trailing white (until p t)) (black b (omega arith)) in
@@ -274,21 +283,36 @@ module _ {p : ℕ → Bool} (q : Quiet p) (s : Text) {i : ℕ} (a : i ≡ length
     signed_whole : get_or s i 0 ≡ 45 → numeral w (trim (until p s)) ≡ numeral w (trim (45 ∷ until p (drop (i + 1) s)))
     signed_whole k = whole ∙ ap (λ (t : Text). numeral w (trim t)) (behind p s i k (omega arith) q.on_minus)
 
-    pub no_numeral : i < length s → 57 < get_or s i 0 → none ≡ numeral w (trim (until p s))
+    pub no_numeral : i < length s → 57 < get_or s i 0 → None ≡ numeral w (trim (until p s))
     no_numeral h k =
         sym (whole ∙ ap (λ (t : Text). numeral w (trim (until p t))) (view s i h) ∙ strange w p (get_or s i 0) (drop (i + 1) s) k)
 
-    pub plus_part : {n : ℕ} → number (until p (drop i s)) ≡ some n → n ≤ 2 ^ (w - 1) - 1 → some (pos n) ≡ numeral w (trim (until p s))
+    pub plus_part : {n : ℕ} → number (until p (drop i s)) ≡ Some n → n ≤ 2 ^ (w - 1) - 1 → Some (pos n) ≡ numeral w (trim (until p s))
     plus_part e h = sym (whole ∙ plain w (until p (drop i s)) e h)
 
-    pub minus_part : {n : ℕ} → get_or s i 0 ≡ 45 → number (until p (drop (i + 1) s)) ≡ some n → n ≤ 2 ^ (w - 1) → some (minus n) ≡ numeral w (trim (until p s))
+    pub minus_part : {n : ℕ} → get_or s i 0 ≡ 45 → number (until p (drop (i + 1) s)) ≡ Some n → n ≤ 2 ^ (w - 1) → Some (minus n) ≡ numeral w (trim (until p s))
     minus_part k e h = sym (signed_whole k ∙ signed w (until p (drop (i + 1) s)) e h)
 
-    pub plus_odd : number (less_trailing white (until p (drop i s))) ≡ none → 48 ≤ get_or (drop i s) 0 0 → none ≡ numeral w (trim (until p s))
+    pub plus_odd : number (less_trailing white (until p (drop i s))) ≡ None → 48 ≤ get_or (drop i s) 0 0 → None ≡ numeral w (trim (until p s))
     plus_odd e h = sym (whole ∙ bare w p (drop i s) h ∙ ap (at_most (2 ^ (w - 1) - 1) pos) e)
 
-    pub minus_odd : get_or s i 0 ≡ 45 → number (less_trailing white (until p (drop (i + 1) s))) ≡ none → none ≡ numeral w (trim (until p s))
+    pub minus_odd : get_or s i 0 ≡ 45 → number (less_trailing white (until p (drop (i + 1) s))) ≡ None → None ≡ numeral w (trim (until p s))
     minus_odd k e = sym (signed_whole k ∙ behind_minus w (until p (drop (i + 1) s)) ∙ ap (at_most (2 ^ (w - 1)) minus) e)
+
+-- ── what `run` says of the whole part ──
+
+module _ (x : ℕ) (q : Quiet (eqb x)) (s : Text) {i : ℕ} (a : i ≡ length (until ink s)) (w most : ℕ) (range : most + 1 ≡ 2 ^ (w - 1)) where
+  pub plus_said : (v : Option ℕ) → Said x (drop i s) most v → option_map pos v ≡ numeral w (trim (until (eqb x) s))
+  plus_said None (e, h) = plus_odd q s a w e h
+  plus_said (Some n) (e, h) = plus_part q s a w e (omega arith)
+
+  pub minus_said : get_or s i 0 ≡ 45 → (v : Option ℕ) → Said x (drop (i + 1) s) most v → option_map minus v ≡ numeral w (trim (until (eqb x) s))
+  minus_said k None (e, h) = minus_odd q s a w k e
+  minus_said k (Some n) (e, h) = minus_part q s a w k e (omega arith)
+
+pub said_most : (x : ℕ) (t : Text) (most : ℕ) (v : Option ℕ) → Said x t most v → IfSome v (λ n. n ≤ most)
+said_most x t most None s = tt
+said_most x t most (Some n) s = s.1
 
 -- ── a part that is sought first: its k bytes ──
 

@@ -1,8 +1,10 @@
-// Numerals of 32 and 64 bits, and the parts of a list that are such.
+// Numerals of any width, and the parts of a list that are such.
 #![tactic(auto)]
 
+mod integer;
 mod numeral;
 mod part;
 
-pub use numeral::{Number32, Number64, parse_i32, parse_i64};
-pub use part::{Part32, Part64, part_i32, part_i64};
+pub use integer::Integer;
+pub use numeral::parse;
+pub use part::{Part, parse_part};

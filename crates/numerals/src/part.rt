@@ -1,70 +1,18 @@
 // The next part of a list, up to its separator: the numeral it is, read in one walk where it is a plain one.
-ghost use Rattle.std.specs.Prelude.{◌≡◌, true, ◌+◌, ◌≤◌, eqb, drop, length, take};
-ghost use Rattle.lexis.specs.Text.{some_of, until, trim};
-ghost use Rattle.numerals.specs.Numeral.{numeral, said64, said32};
-ghost use Rattle.numerals.specs.Parts.{ink, apart, odd, Ran};
+ghost use Rattle.std.specs.Prelude.{◌≡◌, true, ◌≤◌, ◌<◌, eqb, drop, length, pos, option_map, IfSome, if◌then◌else◌};
+ghost use Rattle.lexis.specs.Text.{ink, until, trim};
+ghost use Rattle.numerals.specs.Numeral.{minus, numeral};
+ghost use Rattle.numerals.specs.Parts.{apart, odd, Ran};
 
-use super::numeral::{Number32, Number64, minus32, minus64, parse_i32, parse_i64, plus32, plus64};
-use lexis::{seek, trim, until, white};
+use super::integer::Integer;
+use super::numeral::parse;
+use lexis::{Ink, Pattern, White, seek, trim, until};
 
-// What a trimmed part is as a numeral of 64 bits, and how long the part is.
+// What a trimmed part says, and how long the part is.
 #[derive(Clone, Copy)]
-pub struct Part64 {
-    pub value: Number64,
+pub struct Part<T> {
+    pub value: Option<T>,
     pub len: usize,
-}
-
-// The same at 32 bits.
-#[derive(Clone, Copy)]
-pub struct Part32 {
-    pub value: Number32,
-    pub len: usize,
-}
-
-// A part that begins with digits, and where it ends: they are all of it and write a number, or a byte after them makes it
-// unreadable.
-#[derive(Clone, Copy)]
-enum Walked {
-    Of(u64, usize),
-    Odd(usize),
-    Other,
-}
-
-// Whether one of the sixteen bytes from `at` on isn't white.
-fn among_ink(text: &[u8], at: usize) -> bool
-    requires { at + 16 ≤ length text.now }
-    ensures { result ≡ some_of ink (take 16 (drop at text.now)) }
-{
-    let mut hit = false;
-    let mut j = 0;
-    while j < 16 {
-        hit = hit | !white(text[at + j]);
-        j += 1;
-    }
-    hit
-}
-
-// The place of the first byte from `from` on that isn't white, as `seek` tells that of a byte.
-fn seek_ink(text: &[u8], from: usize) -> usize
-    ensures { result ≡ from + length (until ink (drop from text.now)) }
-{
-    let mut i = from;
-    while i < text.len() {
-        if text.len() - i < 16 {
-            break;
-        }
-        if among_ink(text, i) {
-            break;
-        }
-        i += 16;
-    }
-    while i < text.len() {
-        if !white(text[i]) {
-            break;
-        }
-        i += 1;
-    }
-    i
 }
 
 // How many white bytes stand in front: mostly none or one.
@@ -72,186 +20,124 @@ fn leading(text: &[u8]) -> usize
     ensures { result ≡ length (until ink text.now) }
 {
     if text.len() < 2 {
-        return seek_ink(text, 0);
+        return seek(text, 0, Ink);
     }
-    if !white(text[0]) {
+    if !White.matches(text[0]) {
         return 0;
     }
-    if !white(text[1]) {
+    if !White.matches(text[1]) {
         return 1;
     }
-    seek_ink(text, 2)
+    seek(text, 2, Ink)
 }
 
 // Whether `x` is no byte of a plain numeral and not white: a comma, or past the digits.
 fn apart(x: u8) -> bool
     ensures { result ≡ apart x }
 {
-    (x == 44) | (58 <= x)
+    (x == b',') | (b'9' < x)
 }
 
 // Whether a byte behind digits makes a part unreadable: it is neither white nor a digit.
 fn odd(b: u8) -> bool
     ensures { result ≡ odd b }
 {
-    !white(b) & ((b < 48) | (57 < b))
-}
-
-// The byte as a number of 64 bits.
-fn wide(b: u8) -> u64
-    ensures { result ≡ b }
-{
-    b as u64
+    Ink.matches(b) & ((b < b'0') | (b'9' < b))
 }
 
 // The part from `from` on, if digits begin it: up to the first `x` nothing else stands there and they write at most `most`, or
-// a byte stands there that is neither digit nor white.
-fn run(text: &[u8], x: u8, from: usize, most: u64) -> Walked
-    requires { apart x ≡ true }
+// a byte stands there that is neither digit nor white, and the part is no number.
+fn run(text: &[u8], x: u8, from: usize, most: u64) -> Option<Part<u64>>
+    requires apart { apart x ≡ true }
+    requires from { from ≤ length text.now }
     ensures { Ran x (drop from text.now) from most result }
 {
-    let mut i = from;
-    while i < text.len() {
-        if text[i] != 48 {
-            break;
-        }
-        i += 1;
-    }
+    let mut rest = &text[from..];
     let mut n: u64 = 0;
-    while i < text.len() {
-        let b = wide(text[i]);
-        if b < 48 {
-            break;
-        }
-        if 57 < b {
+    while let Some((b, behind)) = rest.split_first() {
+        let b = *b;
+        if (b < b'0') | (b'9' < b) {
             break;
         }
         if 922337203685477579 < n {
-            return Walked::Other;
+            return None;
         }
-        n = n * 10 + (b - 48);
-        i += 1;
+        n = n * 10 + u64::from(b - b'0');
+        rest = behind;
     }
+    let i = text.len() - rest.len();
     if i == from {
-        return Walked::Other;
+        return None;
     }
     if most < n {
-        return Walked::Other;
+        return None;
     }
     if i < text.len() {
         let b = text[i];
         if b != x {
             if odd(b) {
-                return Walked::Odd(seek(text, i, x));
+                return Some(Part {
+                    value: None,
+                    len: seek(text, i, x),
+                });
             }
-            return Walked::Other;
+            return None;
         }
     }
-    Walked::Of(n, i)
+    Some(Part {
+        value: Some(n),
+        len: i,
+    })
+}
+
+// The number whose digits were walked, with its sign.
+fn signed<T: Integer>(p: Part<u64>, negative: bool) -> Part<T>
+    requires { IfSome p.value (λ n. n ≤ T.MOST) }
+    ensures len { result.len ≡ p.len }
+    ensures value { option_map T.is result.value ≡ option_map (if negative then minus else pos) p.value }
+{
+    let value = match p.value {
+        Some(n) => Some(if negative { T::minus(n) } else { T::plus(n) }),
+        None => None,
+    };
+    Part { value, len: p.len }
 }
 
 // Any part: sought, trimmed and read.
-fn slow64(text: &[u8], x: u8) -> Part64
-    ensures { (result.len ≡ length (until (eqb x) text.now)) × (said64 result.value ≡ numeral 64 (trim (until (eqb x) text.now))) }
+fn slow<T: Integer>(text: &[u8], x: u8) -> Part<T>
+    ensures { (result.len ≡ length (until (eqb x) text.now)) × (option_map T.is result.value ≡ numeral T.bits (trim (until (eqb x) text.now))) }
 {
     let len = until(text, x);
-    let value = parse_i64(trim(&text[..len]));
-    Part64 { value, len }
+    let value = parse(trim(&text[..len]));
+    Part { value, len }
 }
 
-// The numeral of 64 bits that is the part of `text` before the first `x`.
-pub fn part_i64(text: &[u8], x: u8) -> Part64
-    ensures { (result.len ≡ length (until (eqb x) text.now)) × (said64 result.value ≡ numeral 64 (trim (until (eqb x) text.now))) }
+// The numeral that is the part of `text` before the first `x`.
+pub fn parse_part<T: Integer>(text: &[u8], x: u8) -> Part<T>
+    ensures { (result.len ≡ length (until (eqb x) text.now)) × (option_map T.is result.value ≡ numeral T.bits (trim (until (eqb x) text.now))) }
 {
     if !apart(x) {
-        return slow64(text, x);
+        return slow(text, x);
     }
     let i = leading(text);
     if text.len() <= i {
-        return slow64(text, x);
+        return slow(text, x);
     }
     let b = text[i];
-    if 57 < b {
-        return Part64 {
-            value: Number64::Unreadable,
+    if b'9' < b {
+        return Part {
+            value: None,
             len: until(text, x),
         };
     }
-    if b == 45 {
-        return match run(text, x, i + 1, 9223372036854775807) {
-            Walked::Of(n, len) => Part64 {
-                value: Number64::Value(minus64(n)),
-                len,
-            },
-            Walked::Odd(len) => Part64 {
-                value: Number64::Unreadable,
-                len,
-            },
-            Walked::Other => slow64(text, x),
+    if b == b'-' {
+        return match run(text, x, i + 1, T::MOST) {
+            Some(p) => signed(p, true),
+            None => slow(text, x),
         };
     }
-    match run(text, x, i, 9223372036854775807) {
-        Walked::Of(n, len) => Part64 {
-            value: Number64::Value(plus64(n)),
-            len,
-        },
-        Walked::Odd(len) => Part64 {
-            value: Number64::Unreadable,
-            len,
-        },
-        Walked::Other => slow64(text, x),
-    }
-}
-
-// Any part: sought, trimmed and read.
-fn slow32(text: &[u8], x: u8) -> Part32
-    ensures { (result.len ≡ length (until (eqb x) text.now)) × (said32 result.value ≡ numeral 32 (trim (until (eqb x) text.now))) }
-{
-    let len = until(text, x);
-    let value = parse_i32(trim(&text[..len]));
-    Part32 { value, len }
-}
-
-// The numeral of 32 bits that is the part of `text` before the first `x`.
-pub fn part_i32(text: &[u8], x: u8) -> Part32
-    ensures { (result.len ≡ length (until (eqb x) text.now)) × (said32 result.value ≡ numeral 32 (trim (until (eqb x) text.now))) }
-{
-    if !apart(x) {
-        return slow32(text, x);
-    }
-    let i = leading(text);
-    if text.len() <= i {
-        return slow32(text, x);
-    }
-    let b = text[i];
-    if 57 < b {
-        return Part32 {
-            value: Number32::Unreadable,
-            len: until(text, x),
-        };
-    }
-    if b == 45 {
-        return match run(text, x, i + 1, 2147483647) {
-            Walked::Of(n, len) => Part32 {
-                value: Number32::Value(minus32(n)),
-                len,
-            },
-            Walked::Odd(len) => Part32 {
-                value: Number32::Unreadable,
-                len,
-            },
-            Walked::Other => slow32(text, x),
-        };
-    }
-    match run(text, x, i, 2147483647) {
-        Walked::Of(n, len) => Part32 {
-            value: Number32::Value(plus32(n)),
-            len,
-        },
-        Walked::Odd(len) => Part32 {
-            value: Number32::Unreadable,
-            len,
-        },
-        Walked::Other => slow32(text, x),
+    match run(text, x, i, T::MOST) {
+        Some(p) => signed(p, false),
+        None => slow(text, x),
     }
 }

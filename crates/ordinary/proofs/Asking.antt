@@ -1,10 +1,9 @@
 -- The strict reader asked first: what it doesn't refuse with 5 is the ordinary reader's answer (demand 3, `accord`); what it does is short and
 -- ASCII, so that the port's answer is the ordinary reader's.
-use Rattle.std.specs.Prelude.{if◌then◌else◌}
+use Rattle.std.specs.Prelude.{if◌then◌else◌, Option, None, Some}
 use Prim.Native.Nat.{ℕ}
 use native.Mathlib.Omega.{arith}
 use mathlib.Core.Bool.{Bool, true, false}
-use mathlib.Core.Option.{Option, none, some}
 use mathlib.Core.Path.{◌≡◌, refl, sym, ap, ◌∙◌}
 use lib.Dec.{leb}
 use lib.ListN.{length}
@@ -29,8 +28,8 @@ module _ (s : Text) (r : Reading) (e : Strictly 8 1024 s r) where
   open_still n = by (leb (length s) 1024) e
     where
       ascii : (o : Option ℕ) → ReadAscii 8 s o r → judged 8 (parse s) ≡ read_ascii 8 s o
-      ascii (some place) h = let z : number r.refusal ≡ 2 = ap (λ (x : Reading). number x.refusal) h in let f : ⊥ = omega arith in absurd f
-      ascii none h = refl
+      ascii (Some place) h = let z : number r.refusal ≡ 2 = ap (λ (x : Reading). number x.refusal) h in let f : ⊥ = omega arith in absurd f
+      ascii None h = refl
 
       by : (b : Bool) → elim b as (λ _. Type 0) [ true ↦ ReadAscii 8 s (high_from 0 s) r | false ↦ r ≡ refused 8 TooLong 0 ]
           → (if b then judged 8 (parse s) else refused 8 TooLong 0) ≡ (if b then read_ascii 8 s (high_from 0 s) else refused 8 TooLong 0)

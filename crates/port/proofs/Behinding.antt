@@ -3,7 +3,7 @@ use Prim.Native.Nat.{ℕ, zero, suc, ◌+◌, ◌-◌, ◌≤◌, ◌<◌}
 use native.Mathlib.Omega.{arith}
 use mathlib.Core.Bool.{Bool, true, false}
 use mathlib.Core.List.{[], ◌∷◌}
-use mathlib.Core.Option.{some}
+use Rattle.std.specs.Prelude.{Some}
 use mathlib.Core.Path.{◌≡◌, refl, sym, ap, subst, ◌∙◌}
 use borrow.Author.Tests.{ltb-true, ltb-false, eqb-false}
 use lib.Dec.{ltb, eqb}
@@ -81,7 +81,7 @@ module _ {s : Text} {i t n : ℕ} (g : Behind s i t n) where
       subst (λ (j : ℕ). Behind s (i + 1) j n) (sym x) (beside f))
       (λ h. record {
         past = λ k.
-            let v : seen (bytes "tile=(") (suc (i + 1)) s ≡ some u = ap (λ (j : ℕ). seen (bytes "tile=(") j s) {x = suc (i + 1)} {y = i + 1 + 1} (omega arith) ∙ sym b.is ∙ L.told_some (length s) u k in
+            let v : seen (bytes "tile=(") (suc (i + 1)) s ≡ Some u = ap (λ (j : ℕ). seen (bytes "tile=(") j s) {x = suc (i + 1)} {y = i + 1 + 1} (omega arith) ∙ sym b.is ∙ L.told_some (length s) u k in
             let w = S.fresh (bytes "tile=(") s (i + 1) u (omega arith) (sym a.is ∙ L.told_none (length s) t h) v in
             let z = g.shut h in
             let y : i + 1 ≤ u + 6 = omega arith in

@@ -1,10 +1,9 @@
 -- What is built of lists that are laid from clauses is what is carried of the type with these clauses, for each maker; and what was found,
 -- where the code says that something was.
-use Rattle.std.specs.Prelude.{if◌then◌else◌}
+use Rattle.std.specs.Prelude.{if◌then◌else◌, Option, None, Some}
 use Prim.Native.Nat.{ℕ}
 use native.Mathlib.Omega.{arith}
 use mathlib.Core.Bool.{Bool, true, false}
-use mathlib.Core.Option.{Option, none, some}
 use mathlib.Core.Path.{◌≡◌, refl, sym, ap, ◌∙◌}
 use Rattle.scalars.specs.declared.scalar.Scalar.{Scalar}
 use Rattle.meaning.specs.Found.{Clause, stands, unused, made, plain}
@@ -69,23 +68,23 @@ module _ (x : Viewed) {m t s : Laid} (k : Kind) (map traversal sparse : Clause) 
 -- x is f of the value that o has
 pub record Has {A B : Type 0} (f : A → B) (o : Option A) (x : B) : Type 0 where
   pub value : A
-  pub is : o ≡ some value
+  pub is : o ≡ Some value
   pub same : x ≡ f value
 
-module _ {A B : Type 0} (f : A → B) (x : B) (o : Option A) {d : Bool} (e : (if d then some x else none) ≡ each f o) where
-  taken : {b : Bool} → d ≡ b → (if b then some x else none) ≡ each f o
-  taken t = sym (ap (λ (b : Bool). if b then some x else none) t) ∙ e
+module _ {A B : Type 0} (f : A → B) (x : B) (o : Option A) {d : Bool} (e : (if d then Some x else None) ≡ each f o) where
+  taken : {b : Bool} → d ≡ b → (if b then Some x else None) ≡ each f o
+  taken t = sym (ap (λ (b : Bool). if b then Some x else None) t) ∙ e
 
   pub has : d ≡ true → Has f o x
   has t = by o (taken t)
     where
-      by : (o : Option A) → some x ≡ each f o → Has f o x
-      by none e = let z : ◌≡◌ {A = ℕ} 0 1 = cc in let f : ⊥ = omega arith in absurd f
-      by (some a) e = record { value = a; is = refl; same = cc }
+      by : (o : Option A) → Some x ≡ each f o → Has f o x
+      by None e = let z : ◌≡◌ {A = ℕ} 0 1 = cc in let f : ⊥ = omega arith in absurd f
+      by (Some a) e = record { value = a; is = refl; same = cc }
 
-  pub lacks : d ≡ false → o ≡ none
+  pub lacks : d ≡ false → o ≡ None
   lacks t = by o (taken t)
     where
-      by : (o : Option A) → none ≡ each f o → o ≡ none
-      by none e = refl
-      by (some a) e = let z : ◌≡◌ {A = ℕ} 0 1 = cc in let f : ⊥ = omega arith in absurd f
+      by : (o : Option A) → None ≡ each f o → o ≡ None
+      by None e = refl
+      by (Some a) e = let z : ◌≡◌ {A = ℕ} 0 1 = cc in let f : ⊥ = omega arith in absurd f

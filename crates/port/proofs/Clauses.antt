@@ -1,11 +1,10 @@
 -- Laws of a view's clauses, by what the seekers tell: the padding, a text behind another, a list in brackets, entries, the sparse dimension,
 -- and what a list or what fills in for it is laid as.
-use Rattle.std.specs.Prelude.{if◌then◌else◌}
+use Rattle.std.specs.Prelude.{if◌then◌else◌, None, Some}
 use Prim.Native.Nat.{ℕ, ◌+◌, ◌-◌, ◌≤◌}
 use native.Mathlib.Omega.{arith}
 use mathlib.Core.Bool.{Bool, true, false, ◌||◌, ◌&&◌, not}
 use mathlib.Core.List.{[], ◌∷◌}
-use mathlib.Core.Option.{none, some}
 use mathlib.Core.Path.{◌≡◌, refl, sym, ap, subst, ◌∙◌}
 use lib.Dec.{eqb}
 use lib.IntN.{pos}
@@ -56,10 +55,10 @@ asked s = by (occurs (bytes "padding_value") s) (occurs (bytes "zero") s) (occur
 
 -- ── q, n bytes behind the end of p, which stands i bytes into s ──
 
-module _ (p s : Text) (i : ℕ) (e : place (cut p s) ≡ some i) where
+module _ (p s : Text) (i : ℕ) (e : place (cut p s) ≡ Some i) where
   module _ (q : Text) where
-    module _ (n : ℕ) (f : place (cut q (take (length s - (i + length p)) (drop (i + length p) s))) ≡ some n) where
-      there : place (cut q (drop (i + length p) s)) ≡ some n
+    module _ (n : ℕ) (f : place (cut q (take (length s - (i + length p)) (drop (i + length p) s))) ≡ Some n) where
+      there : place (cut q (drop (i + length p) s)) ≡ Some n
       there = rw (rest s (i + length p)) at f
 
       pub next : cut q (drop (i + length p) s) ≡ at (take n (drop (i + length p) s)) (drop (i + length p + (n + length q)) s)
@@ -68,14 +67,14 @@ module _ (p s : Text) (i : ℕ) (e : place (cut p s) ≡ some i) where
       pub next_within : i + length p + n + length q ≤ length s
       next_within = omega (arith, cut_within p s i e, cut_within q (drop (i + length p) s) n there, length-drop (i + length p) s)
 
-    pub no_next : place (cut q (take (length s - (i + length p)) (drop (i + length p) s))) ≡ none → cut q (drop (i + length p) s) ≡ nowhere
+    pub no_next : place (cut q (take (length s - (i + length p)) (drop (i + length p) s))) ≡ None → cut q (drop (i + length p) s) ≡ nowhere
     no_next f = cut_nowhere q (drop (i + length p) s) (rw (rest s (i + length p)) at f)
 
 -- ── a list in brackets ──
 
 module _ (p s : Text) where
-  module _ (i : ℕ) (e : place (cut p s) ≡ some i) where
-    pub list_closed : (n : ℕ) → place (cut (bytes "]") (take (length s - (i + length p)) (drop (i + length p) s))) ≡ some n
+  module _ (i : ℕ) (e : place (cut p s) ≡ Some i) where
+    pub list_closed : (n : ℕ) → place (cut (bytes "]") (take (length s - (i + length p)) (drop (i + length p) s))) ≡ Some n
         → ListIs s (C.Between (i + length p) (i + length p + n)) (W.list_after p s)
     list_closed n f =
         let k : i + length p + n - (i + length p) ≡ n = omega arith in
@@ -84,11 +83,11 @@ module _ (p s : Text) where
           inside = (omega arith, omega (arith, next_within p s i e (bytes "]") n f));
         }
 
-    pub list_unclosed : place (cut (bytes "]") (take (length s - (i + length p)) (drop (i + length p) s))) ≡ none
+    pub list_unclosed : place (cut (bytes "]") (take (length s - (i + length p)) (drop (i + length p) s))) ≡ None
         → ListIs s C.Unclosed (W.list_after p s)
     list_unclosed f = record { is = sym (ap W.list_by (cut_at p s i e) ∙ ap W.closed (no_next p s i e (bytes "]") f)); inside = tt }
 
-  pub list_absent : place (cut p s) ≡ none → ListIs s C.Absent (W.list_after p s)
+  pub list_absent : place (cut p s) ≡ None → ListIs s C.Absent (W.list_after p s)
   list_absent e = record { is = sym (ap W.list_by (cut_nowhere p s e)); inside = tt }
 
 -- ── entries ──
@@ -122,7 +121,7 @@ pub until_part : (p : ℕ → Bool) (t : Text) {k : ℕ} → k ≡ length (until
 until_part p t {k} e = sym (length-take-le k t (omega (arith, until_within p t)))
 
 module _ {l : Laid} (s : Text) where
-  module _ (i : ℕ) (e : place (cut (bytes "sparse_dim=") s) ≡ some i) (t : Text) (r : t ≡ take (length s - (i + 11)) (drop (i + 11) s)) where
+  module _ (i : ℕ) (e : place (cut (bytes "sparse_dim=") s) ≡ Some i) (t : Text) (r : t ≡ take (length s - (i + 11)) (drop (i + 11) s)) where
     -- what stands before `>` in what stands before `,`
     pub sparse_read : (k n : ℕ) → k ≡ length (until (eqb 44) t) → n ≡ length (until (eqb 62) (take k t))
         → l ≡ laid 8 (stands (W.small (pos 0) (take n (take k t)) ∷ [])) → l ≡ laid 8 (W.sparse_by (cut (bytes "sparse_dim=") s))
@@ -134,7 +133,7 @@ module _ {l : Laid} (s : Text) where
         h ∙ ap (λ (u : Text). laid 8 (stands (W.small (pos 0) u ∷ []))) d ∙
         sym (ap (λ (c : Cut). laid 8 (W.sparse_by c)) (cut_at (bytes "sparse_dim=") s i e))
 
-  pub sparse_absent : place (cut (bytes "sparse_dim=") s) ≡ none → l ≡ laid 8 (filled (pos 0 ∷ [])) → l ≡ laid 8 (W.sparse_by (cut (bytes "sparse_dim=") s))
+  pub sparse_absent : place (cut (bytes "sparse_dim=") s) ≡ None → l ≡ laid 8 (filled (pos 0 ∷ [])) → l ≡ laid 8 (W.sparse_by (cut (bytes "sparse_dim=") s))
   sparse_absent e h = h ∙ sym (ap (λ (c : Cut). laid 8 (W.sparse_by c)) (cut_nowhere (bytes "sparse_dim=") s e))
 
 -- there is one

@@ -2,7 +2,7 @@
 use Prim.Native.Nat.{ℕ, ◌-◌, ◌≤◌, ◌<◌}
 use native.Mathlib.Omega.{arith}
 use mathlib.Core.Bool.{true, false, false≢true}
-use mathlib.Core.Option.{none, some}
+use Rattle.std.specs.Prelude.{None, Some}
 use mathlib.Core.Path.{◌≡◌, sym, ap, subst, ◌∙◌}
 use borrow.Author.Tests.{ltb-true}
 use lib.Dec.{ltb}
@@ -33,7 +33,7 @@ module _ {s : Text} {r : Scanning} (g : Scanned s r) where
     open_ended : each length (content s) ≡ each length (less_final s)
     open_ended = unmatched s (sym g.end ∙ L.told_none (length s) r.end h)
 
-    nowhere_to : each length (less_final s) ≡ none → Contained s r
+    nowhere_to : each length (less_final s) ≡ None → Contained s r
     nowhere_to e = record {
       end = L.told_none (length s) r.end h ∙ sym (open_ended ∙ e);
       places = λ k. let f : ⊥ = omega arith in absurd f;
@@ -67,8 +67,8 @@ module _ (p s : Text) where
     is = long;
     places = λ t c q.
         let h = ltb-true r.end (length behind) t in
-        let n : each length (bracketed p s) ≡ some r.end = sym long ∙ L.told_some (length behind) r.end h in
-        let k : some (take r.end (drop (length p) s)) ≡ some c = sym (bracketed_at p s r.end n) ∙ q in
+        let n : each length (bracketed p s) ≡ Some r.end = sym long ∙ L.told_some (length behind) r.end h in
+        let k : Some (take r.end (drop (length p) s)) ≡ Some c = sym (bracketed_at p s r.end n) ∙ q in
         let w : take r.end (drop (length p) s) ≡ c = cc in
         subst (λ (c : Text). Placed c r.places) (ap (take r.end) (rest s (length p)) ∙ w) (g.places h);
   }

@@ -5,7 +5,7 @@ use Prim.Native.Char.{code}
 use mathlib.Core.Bool.{true, false}
 use mathlib.Core.List as L
 use mathlib.Core.List.{List, [], ◌∷◌}
-use mathlib.Core.Option.{Option, none, some}
+use Rattle.std.specs.Prelude.{Option, None, Some}
 use mathlib.Core.Path.{◌≡◌, refl, sym, ap, subst, ◌∙◌}
 use lib.Dec.{eqb}
 use lib.ListN.{length, take, drop, replicate}
@@ -58,7 +58,7 @@ module _ (s : Text) {f : Front} (g : Fronted 8 s f) where
   named e q = sym (e ∙ ap scalar_name (rest s f.last ∙ g.part)) ∙ ap said q
 
   -- one DYNAMIC for each
-  pub none_read : {l : Laid} → l ≡ laid 8 (filled (replicate f.dims.row.len DYNAMIC)) → l ≡ laid 8 (strides_of (length (sizes s)) none)
+  pub none_read : {l : Laid} → l ≡ laid 8 (filled (replicate f.dims.row.len DYNAMIC)) → l ≡ laid 8 (strides_of (length (sizes s)) None)
   none_read e = e ∙ ap (λ (n : ℕ). laid 8 (filled (replicate n DYNAMIC))) (ap (λ (m : Laid). m.row.len) g.dims ∙ as_many (sizes s))
     where
       as_many : (ps : List Text) → length (L.map (λ (e : Entry). e.value) (L.map dimension ps)) ≡ length ps
@@ -72,12 +72,12 @@ module _ (s : Text) (strides : Option Text) where
   unfolding tensor_parts
   by_element e = ap (each (tensor_of (sizes s) strides)) e
 
-  pub tensor_read : {e : Scalar} {a b : List64} → scalar_name (behind s) ≡ some e
+  pub tensor_read : {e : Scalar} {a b : List64} → scalar_name (behind s) ≡ Some e
       → list64 a ≡ laid 8 (dimensions (sizes s)) → list64 b ≡ laid 8 (strides_of (length (sizes s)) strides)
       → TensorIs (record { found = true; element = e; shape = a; strides = b }) (tensor_parts s strides)
-  tensor_read {e} n q r = rw (by_element n) (record { is = λ i. some (record { element = e; shape = q i; strides = r i }) })
+  tensor_read {e} n q r = rw (by_element n) (record { is = λ i. Some (record { element = e; shape = q i; strides = r i }) })
 
-  pub tensor_none : {r : Tensor} → scalar_name (behind s) ≡ none → TensorIs r none → TensorIs r (tensor_parts s strides)
+  pub tensor_none : {r : Tensor} → scalar_name (behind s) ≡ None → TensorIs r None → TensorIs r (tensor_parts s strides)
   tensor_none n t = rw (by_element n) t
 
 pub strides_read : {l : Laid} (s t u : Text) → t ≡ less_leading (eqb 91) s → u ≡ less_trailing (eqb 93) t → l ≡ laid 8 (dimensions (split 44 u))
@@ -85,34 +85,34 @@ pub strides_read : {l : Laid} (s t u : Text) → t ≡ less_leading (eqb 91) s �
 unfolding stride_parts
 strides_read s t u p q e = e ∙ ap (λ (v : Text). laid 8 (dimensions (split 44 v))) (q ∙ ap (less_trailing (eqb 93)) p)
 
-pub strides_rest : {r : Tensor} (u s : Text) (k : ℕ) → TensorIs r (tensor_parts u (some (take (length s - k) (drop k s)))) → TensorIs r (tensor_parts u (some (drop k s)))
-strides_rest {r} u s k = subst (λ (t : Text). TensorIs r (tensor_parts u (some t))) (rest s k)
+pub strides_rest : {r : Tensor} (u s : Text) (k : ℕ) → TensorIs r (tensor_parts u (Some (take (length s - k) (drop k s)))) → TensorIs r (tensor_parts u (Some (drop k s)))
+strides_rest {r} u s k = subst (λ (t : Text). TensorIs r (tensor_parts u (Some t))) (rest s k)
 
 -- by the first `, strides=`, else by the first `,strides=`
 module _ {r : Tensor} (s : Text) where
-  pub strides_first : {u t : Text} → cut (bytes ", strides=") s ≡ at u t → TensorIs r (tensor_parts u (some t)) → TensorIs r (tensor s)
+  pub strides_first : {u t : Text} → cut (bytes ", strides=") s ≡ at u t → TensorIs r (tensor_parts u (Some t)) → TensorIs r (tensor s)
   unfolding tensor
   strides_first e h = subst (TensorIs r) (sym (ap (λ (c : Cut). tensor_by s c (cut (bytes ",strides=") s)) e)) h
 
   module _ (n : cut (bytes ", strides=") s ≡ nowhere) where
-    pub strides_second : {u t : Text} → cut (bytes ",strides=") s ≡ at u t → TensorIs r (tensor_parts u (some t)) → TensorIs r (tensor s)
+    pub strides_second : {u t : Text} → cut (bytes ",strides=") s ≡ at u t → TensorIs r (tensor_parts u (Some t)) → TensorIs r (tensor s)
     unfolding tensor
     strides_second e h = subst (TensorIs r) (sym (λ i. tensor_by s (n i) (e i))) h
 
-    pub strides_nowhere : cut (bytes ",strides=") s ≡ nowhere → TensorIs r (tensor_parts s none) → TensorIs r (tensor s)
+    pub strides_nowhere : cut (bytes ",strides=") s ≡ nowhere → TensorIs r (tensor_parts s None) → TensorIs r (tensor s)
     unfolding tensor
     strides_nowhere e h = subst (TensorIs r) (sym (λ i. tensor_by s (n i) (e i))) h
 
 module _ (s : Text) (t : Tensor) (h : TensorIs t (tensor s)) where
-  pub view_none : t.found ≡ false → none ≡ each (carried 8) (tensor_view s)
+  pub view_none : t.found ≡ false → None ≡ each (carried 8) (tensor_view s)
   unfolding tensor_view
   view_none e = sym (ap (λ (o : Option T.Tensor). each (carried 8) (each tensor_found o)) (lacks (tensored 8) (C.tensor_parts t) (tensor s) h.is e))
 
-  pub view_some : t.found ≡ true → some (bare K.TensorView t.element false (list64 t.shape) (list64 t.strides)) ≡ each (carried 8) (tensor_view s)
+  pub view_some : t.found ≡ true → Some (bare K.TensorView t.element false (list64 t.shape) (list64 t.strides)) ≡ each (carried 8) (tensor_view s)
   unfolding tensor_view
   view_some e =
       let v = has (tensored 8) (C.tensor_parts t) (tensor s) h.is e in
-      ap some (tensor_is (C.tensor_parts t) v.value v.same) ∙ sym (ap (λ (o : Option T.Tensor). each (carried 8) (each tensor_found o)) v.is)
+      ap Some (tensor_is (C.tensor_parts t) v.value v.same) ∙ sym (ap (λ (o : Option T.Tensor). each (carried 8) (each tensor_found o)) v.is)
 
   pub view_sound : t.found ≡ true → (fell (list64 t.shape) ≤ t.shape.row.len) × (fell (list64 t.strides) ≤ t.strides.row.len)
   view_sound e =

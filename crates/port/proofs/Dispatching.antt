@@ -1,9 +1,8 @@
 -- Laws of the dispatch: the forms that were passed over, the form that applies and decides, a bare name at last; and both
 -- spellings of a form read as one, `!cuda_tile.` taken off.
-use Rattle.std.specs.Prelude.{if◌then◌else◌}
+use Rattle.std.specs.Prelude.{if◌then◌else◌, Option, None, Some}
 use mathlib.Core.Bool.{Bool, true, false, ◌&&◌, ◌||◌, false≢true}
 use mathlib.Core.List.{List, [], ◌∷◌, ◌++◌}
-use mathlib.Core.Option.{Option, none, some}
 use mathlib.Core.Path.{◌≡◌, refl, subst, sym, ap, ◌∙◌}
 use lib.Dec.{eqb}
 use borrow.Author.Tests.{eqb-true}
@@ -36,13 +35,13 @@ module _ (b : Bool) {x : Reading} {o : Option Scalar} (s : Text) (g : scalar_nam
 -- ── the forms in order ──
 
 module _ {p s : Text} {r : Applied} (e : Told p s r) where
-  by : (d : Bool) → r.applies ≡ d → each length (bracketed p s) ≡ if d then some r.len else none
-  by d t = sym e.is ∙ ap (λ (d : Bool). if d then some r.len else none) t
+  by : (d : Bool) → r.applies ≡ d → each length (bracketed p s) ≡ if d then Some r.len else None
+  by d t = sym e.is ∙ ap (λ (d : Bool). if d then Some r.len else None) t
 
-  pub applied : r.applies ≡ true → each length (bracketed p s) ≡ some r.len
+  pub applied : r.applies ≡ true → each length (bracketed p s) ≡ Some r.len
   applied t = by true t
 
-  pub unapplied : r.applies ≡ false → bracketed p s ≡ none
+  pub unapplied : r.applies ≡ false → bracketed p s ≡ None
   unapplied t = bracketed_none p s (by false t)
 
 -- no form before fs applies
@@ -53,15 +52,15 @@ pub untried : (all : List Form) (d : Option Found) (t : Text) → Tried all d t 
 untried all d t = record { same = refl }
 
 module _ {all : List Form} {d : Option Found} {t : Text} {f : Form} {fs : List Form} (g : Tried all d t (f ∷ fs)) where
-  next : (o : Option Text) → bracketed (bytes f.opens) t ≡ o → first_of all t d ≡ elim o [ some u ↦ f.content u | none ↦ first_of fs t d ]
-  next o e = g.same ∙ ap (λ (o : Option Text). elim o [ some u ↦ f.content u | none ↦ first_of fs t d ]) e
+  next : (o : Option Text) → bracketed (bytes f.opens) t ≡ o → first_of all t d ≡ elim o [ Some u ↦ f.content u | None ↦ first_of fs t d ]
+  next o e = g.same ∙ ap (λ (o : Option Text). elim o [ Some u ↦ f.content u | None ↦ first_of fs t d ]) e
 
   pub past : {r : Applied} → Told (bytes f.opens) t r → r.applies ≡ false → Tried all d t fs
-  past e h = record { same = next none (unapplied e h) }
+  past e h = record { same = next None (unapplied e h) }
 
-  pub decides : (b : Bool) {x : Reading} (u : Text) → bracketed (bytes f.opens) t ≡ some u → x ≡ answered b (each (carried 8) (f.content u))
+  pub decides : (b : Bool) {x : Reading} (u : Text) → bracketed (bytes f.opens) t ≡ Some u → x ≡ answered b (each (carried 8) (f.content u))
       → x ≡ answered b (each (carried 8) (first_of all t d))
-  decides b u e q = q ∙ sym (ap (λ (o : Option Found). answered b (each (carried 8) o)) (next (some u) e))
+  decides b u e q = q ∙ sym (ap (λ (o : Option Found). answered b (each (carried 8) o)) (next (Some u) e))
 
 module _ {all fs : List Form} {d : Option Found} {t : Text} {x : Reading} (b : Bool) where
   pub at_last : Tried all d t fs → x ≡ answered b (each (carried 8) (first_of fs t d)) → x ≡ answered b (each (carried 8) (first_of all t d))
@@ -71,7 +70,7 @@ module _ {all fs : List Form} {d : Option Found} {t : Text} {x : Reading} (b : B
 
 -- what is read of t, which is s without the prefix
 abbrev named : Text → Text → Option Found
-named s t = if same t (bytes "token") then some token else first_of shorthand t (bare s)
+named s t = if same t (bytes "token") then Some token else first_of shorthand t (bare s)
 
 -- the prefix is there: each prefixed form says of s what its shorthand says of the rest, and no shorthand form applies
 long : (t : Text) → unmarked (bytes "!cuda_tile." ++ t) ≡ named (bytes "!cuda_tile." ++ t) t
@@ -81,7 +80,7 @@ long t = by (same t (bytes "token"))
     s : Text
     s = bytes "!cuda_tile." ++ t
 
-    by : (d : Bool) → (if d || false then some token else by_forms forms s) ≡ (if d then some token else first_of shorthand t (bare s))
+    by : (d : Bool) → (if d || false then Some token else by_forms forms s) ≡ (if d then Some token else first_of shorthand t (bare s))
     by true = refl
     by false = refl
 
@@ -132,9 +131,9 @@ spelled s = by (begins (bytes "!cuda_tile.") s) refl
     by false e = short s e
 
 module _ (s : Text) where
-  pub is_token : same (unprefixed s) (bytes "token") ≡ true → some (carried 8 (plain K.Token I1)) ≡ each (carried 8) (unmarked s)
+  pub is_token : same (unprefixed s) (bytes "token") ≡ true → Some (carried 8 (plain K.Token I1)) ≡ each (carried 8) (unmarked s)
   unfolding token
-  is_token e = sym (ap (each (carried 8)) (spelled s ∙ ap (λ (d : Bool). if d then some token else first_of shorthand (unprefixed s) (bare s)) e))
+  is_token e = sym (ap (each (carried 8)) (spelled s ∙ ap (λ (d : Bool). if d then Some token else first_of shorthand (unprefixed s) (bare s)) e))
 
   pub no_token : same (unprefixed s) (bytes "token") ≡ false → first_of shorthand (unprefixed s) (bare s) ≡ unmarked s
-  no_token e = sym (spelled s ∙ ap (λ (d : Bool). if d then some token else first_of shorthand (unprefixed s) (bare s)) e)
+  no_token e = sym (spelled s ∙ ap (λ (d : Bool). if d then Some token else first_of shorthand (unprefixed s) (bare s)) e)

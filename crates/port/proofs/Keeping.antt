@@ -2,7 +2,7 @@
 use Prim.Native.Nat.{ℕ, ◌+◌, ◌≤◌, ◌<◌}
 use native.Mathlib.Omega.{arith}
 use mathlib.Core.Bool.{true, false, false≢true}
-use mathlib.Core.Option.{none, some}
+use Rattle.std.specs.Prelude.{None, Some}
 use mathlib.Core.Path.{◌≡◌, refl, sym, ap, ◌∙◌}
 use lib.ListN.{length, take, drop, get_or}
 use Rattle.lexis.specs.Text.{Text, place, until}
@@ -20,7 +20,7 @@ use Rattle.port.proofs.Behinding as B
 cold : (b x : ℕ) → hot b ≡ false → hot x ≡ true → b ≡ x → ⊥
 cold b x e f g = false≢true (sym e ∙ ap hot g ∙ f)
 
-plain : (d b : ℕ) → hot b ≡ false → depth d b ≡ some d
+plain : (d b : ℕ) → hot b ≡ false → depth d b ≡ Some d
 plain d b e = D.level d b (cold b 60 e refl) (cold b 62 e refl)
 
 -- a byte that is no anchor of a keyword
@@ -89,18 +89,18 @@ begin {s} {r} {i} g e = record {
 }
 
 module _ {s : Text} {d i : ℕ} {r : Places} (g : Kept s d i r) where
-  pub again : {e k : ℕ} {q : Places} → i < length s → depth d (get_or s i 0) ≡ some e → Sights s (i + 1) q
+  pub again : {e k : ℕ} {q : Places} → i < length s → depth d (get_or s i 0) ≡ Some e → Sights s (i + 1) q
       → k ≡ (i + 1) + length (until hot (drop (i + 1) s)) → Kept s e k q
   again {e} {k} h p f n = record {
     low = let a = D.grows d (get_or s i 0) p in omega (arith, g.low);
     inside = sought_within hot s (i + 1) k (omega arith) n;
-    match = g.match ∙ D.step s d i (some e) h p ∙ D.sought hot plain s e (i + 1) n;
+    match = g.match ∙ D.step s d i (Some e) h p ∙ D.sought hot plain s e (i + 1) n;
     sights = jumped f (omega arith) n;
   }
 
   pub matched : i < length s → get_or s i 0 ≡ 62 → d ≡ 0 → Scanned s (record { end = i; places = r })
   matched h b z = record {
-    end = L.told_some (length s) i h ∙ sym (g.match ∙ D.step s d i none h (D.closes d (get_or s i 0) b z));
+    end = L.told_some (length s) i h ∙ sym (g.match ∙ D.step s d i None h (D.closes d (get_or s i 0) b z));
     inside = g.inside;
     places = closed g.sights b g.inside;
   }

@@ -1,10 +1,9 @@
 -- Record and note that are made of what is carried are those of what was found; a list that was read is sound, so that counts add up.
-use Rattle.std.specs.Prelude.{if◌then◌else◌}
+use Rattle.std.specs.Prelude.{if◌then◌else◌, Option, None, Some}
 use Prim.Native.Nat.{ℕ, zero, suc, ◌≤◌}
 use native.Mathlib.Omega.{arith}
 use mathlib.Core.Bool.{Bool, true, false, ◌&&◌, ◌||◌, false≢true}
 use mathlib.Core.List.{List, [], ◌∷◌}
-use mathlib.Core.Option.{Option, none, some}
 use mathlib.Core.Path.{◌≡◌, refl, sym, ap, subst}
 use borrow.Author.Tests.{leb-true}
 use lib.Dec.{leb}
@@ -102,5 +101,5 @@ answer b v n = if b then record { refusal = Accepted; place = 0; value = v; note
 
 pub answered_is : (b : Bool) (o : Option Found) → answered b (each (carried 8) o) ≡ judged 8 (each (marked b) o)
 unfolding accepted
-answered_is b none = refl
-answered_is b (some t) = λ i. answer (within_is t b i) (recorded_is t b i) (noted_is t b i)
+answered_is b None = refl
+answered_is b (Some t) = λ i. answer (within_is t b i) (recorded_is t b i) (noted_is t b i)

@@ -1,11 +1,10 @@
 -- Laws of the mark passes: what is left without marks is shorter or the text itself; the passes of the definition are those of the code with
 -- the attribute set once; fuel past the length says the same.
-use Rattle.std.specs.Prelude.{if◌then◌else◌}
+use Rattle.std.specs.Prelude.{if◌then◌else◌, Option, None, Some}
 use Prim.Native.Nat.{ℕ, zero, suc, ◌≤◌, ◌<◌}
 use native.Mathlib.Nat.{not-suc-le-zero}
 use native.Mathlib.Omega.{arith}
 use mathlib.Core.Bool.{Bool, true, false, false≢true}
-use mathlib.Core.Option.{Option, none, some}
 use mathlib.Core.Path.{◌≡◌, refl, sym, ap, ◌∙◌}
 use borrow.Author.Tests.{le-leb, lt-leb}
 use lib.Dec.{leb}
@@ -82,8 +81,8 @@ enough (suc n) (suc m) s h k =
 
 twice : (o : Option Found) → each with_attribute (each with_attribute o) ≡ each with_attribute o
 unfolding with_attribute
-twice none = refl
-twice (some t) = refl
+twice None = refl
+twice (Some t) = refl
 
 once : (n : ℕ) (s : Text) → each with_attribute (passes n s) ≡ each with_attribute (reads_on n s)
 once zero s = refl
@@ -119,8 +118,8 @@ module _ (s u t : Text) (q : u ≡ trim s) (e : t ≡ remove mark u) where
         ∙ sym (ap (λ (b : Bool). if b then judged 8 (parse s) else refused 8 TooLong 0) (le-leb (length s) 1024 l))
       where
         plain : (o : Option Found) → each (marked false) o ≡ o
-        plain none = refl
-        plain (some x) = refl
+        plain None = refl
+        plain (Some x) = refl
 
   -- with one
   module _ (h : length t ≡ length u → ⊥) where
@@ -163,7 +162,7 @@ module _ {s room : Text} {n : ℕ} (g : Rewritten s room n) where
 pub rewritten : (s : Text) {room : Text} {n : ℕ} → n ≤ length room → take n room ≡ remove mark s → Rewritten s room n
 rewritten s {room} {n} h e = record { left = sym (length-take-le n room h) ∙ ap length e; fits = λ k. h; is = λ k. e }
 
-pub unwritten : (s room : Text) → place (cut mark s) ≡ none → Rewritten s room (length s)
+pub unwritten : (s room : Text) → place (cut mark s) ≡ None → Rewritten s room (length s)
 unwritten s room e = record {
   left = ap length (sym (remove_none mark some_byte s (cut_nowhere mark s e)));
   fits = λ k. let f : ⊥ = omega arith in absurd f;
@@ -175,5 +174,5 @@ pub on_room : {u room t : Text} {m : ℕ} → Rewritten u room m → t ≡ remov
 on_room {u} g e h = e ∙ sym (g.is (let k = ap length e in let l = g.left in let w = remove_within mark u in omega arith))
 
 -- a text that is shorter than a mark has none
-pub too_short : (s : Text) → length s < 27 → place (cut mark s) ≡ none
+pub too_short : (s : Text) → length s < 27 → place (cut mark s) ≡ None
 too_short s h = nowhere_short mark s (omega (arith, mark_length))

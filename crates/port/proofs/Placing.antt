@@ -1,10 +1,9 @@
 -- What the sighted places say of a content c, for callers; and of a content that ends at a final `>`, one byte before the text.
-use Rattle.std.specs.Prelude.{if◌then◌else◌}
+use Rattle.std.specs.Prelude.{if◌then◌else◌, None, Some}
 use Prim.Native.Nat.{ℕ, zero, suc, ◌+◌, ◌-◌, ◌≤◌, ◌<◌}
 use native.Mathlib.Omega.{arith}
 use mathlib.Core.Bool.{Bool, true, false}
 use mathlib.Core.List.{[], ◌∷◌}
-use mathlib.Core.Option.{none, some}
 use mathlib.Core.Path.{◌≡◌, refl, sym, ap, subst, ◌∙◌}
 use lib.Dec.{eqb}
 use lib.ListN.{length, take, drop, get_or, length-take, length-drop, drop_of_length-le}
@@ -22,7 +21,7 @@ use Rattle.port.proofs.Behinding.{split, take_drop}
 -- ── a number that is a place, and one that is none ──
 
 module _ {p c : Text} {n : ℕ} (g : Spot p c n) where
-  pub placed_at : n < length c → place (cut p c) ≡ some n
+  pub placed_at : n < length c → place (cut p c) ≡ Some n
   placed_at h = sym g.is ∙ L.told_some (length c) n h
 
   pub placed : n < length c → cut p c ≡ at (take n c) (drop (n + length p) c)
@@ -31,7 +30,7 @@ module _ {p c : Text} {n : ℕ} (g : Spot p c n) where
   pub fits : n < length c → n + length p ≤ length c
   fits h = cut_within p c n (placed_at h)
 
-  pub unplaced_at : length c ≤ n → place (cut p c) ≡ none
+  pub unplaced_at : length c ≤ n → place (cut p c) ≡ None
   unplaced_at h = sym g.is ∙ L.told_none (length c) n h
 
   pub unplaced : length c ≤ n → cut p c ≡ nowhere
@@ -40,35 +39,35 @@ module _ {p c : Text} {n : ℕ} (g : Spot p c n) where
 -- ── a later start ──
 
 -- what is first, and stands no earlier than y, is first from y on
-pub later_start : (p u : Text) (y x : ℕ) → place (cut p u) ≡ some x → y ≤ x → place (cut p (drop y u)) ≡ some (x - y)
-later_start p u zero x e h = e ∙ ap some (omega arith)
+pub later_start : (p u : Text) (y x : ℕ) → place (cut p u) ≡ Some x → y ≤ x → place (cut p (drop y u)) ≡ Some (x - y)
+later_start p u zero x e h = e ∙ ap Some (omega arith)
 later_start p [] (suc y) x e h = by (begins p []) e
   where
-    by : (d : Bool) → place (if d then at [] [] else nowhere) ≡ some x → place (if d then at [] [] else nowhere) ≡ some (x - suc y)
+    by : (d : Bool) → place (if d then at [] [] else nowhere) ≡ Some x → place (if d then at [] [] else nowhere) ≡ Some (x - suc y)
     by true e = let k : 0 ≡ x = cc in let f : ⊥ = omega arith in absurd f
     by false e = let z : ◌≡◌ {A = ℕ} 0 1 = cc in let f : ⊥ = omega arith in absurd f
 later_start p (b ∷ u) (suc y) x e h = by (begins p (b ∷ u)) e (later_start p u y (x - 1))
   where
-    inner : (c : Cut) → place (later b c) ≡ some x → place c ≡ some (x - 1)
+    inner : (c : Cut) → place (later b c) ≡ Some x → place c ≡ Some (x - 1)
     inner nowhere e = let z : ◌≡◌ {A = ℕ} 0 1 = cc in let f : ⊥ = omega arith in absurd f
-    inner (at v t) e = let n : suc (length v) ≡ x = cc in ap some (omega arith)
+    inner (at v t) e = let n : suc (length v) ≡ x = cc in ap Some (omega arith)
 
-    by : (d : Bool) → place (if d then at [] (after p (b ∷ u)) else later b (cut p u)) ≡ some x
-        → (place (cut p u) ≡ some (x - 1) → y ≤ x - 1 → place (cut p (drop y u)) ≡ some (x - 1 - y)) → place (cut p (drop y u)) ≡ some (x - suc y)
+    by : (d : Bool) → place (if d then at [] (after p (b ∷ u)) else later b (cut p u)) ≡ Some x
+        → (place (cut p u) ≡ Some (x - 1) → y ≤ x - 1 → place (cut p (drop y u)) ≡ Some (x - 1 - y)) → place (cut p (drop y u)) ≡ Some (x - suc y)
     by true e f = let k : 0 ≡ x = cc in let f : ⊥ = omega arith in absurd f
-    by false e f = f (inner (cut p u) e) (omega arith) ∙ ap some (omega arith)
+    by false e f = f (inner (cut p u) e) (omega arith) ∙ ap Some (omega arith)
 
 -- what is nowhere is nowhere from y on
-pub never_later : (p u : Text) (y : ℕ) → place (cut p u) ≡ none → place (cut p (drop y u)) ≡ none
+pub never_later : (p u : Text) (y : ℕ) → place (cut p u) ≡ None → place (cut p (drop y u)) ≡ None
 never_later p u zero e = e
 never_later p [] (suc y) e = e
 never_later p (b ∷ u) (suc y) e = by (begins p (b ∷ u)) e (never_later p u y)
   where
-    inner : (c : Cut) → place (later b c) ≡ none → place c ≡ none
+    inner : (c : Cut) → place (later b c) ≡ None → place c ≡ None
     inner nowhere e = refl
     inner (at v t) e = let z : ◌≡◌ {A = ℕ} 0 1 = cc in let f : ⊥ = omega arith in absurd f
 
-    by : (d : Bool) → place (if d then at [] (after p (b ∷ u)) else later b (cut p u)) ≡ none → (place (cut p u) ≡ none → place (cut p (drop y u)) ≡ none) → place (cut p (drop y u)) ≡ none
+    by : (d : Bool) → place (if d then at [] (after p (b ∷ u)) else later b (cut p u)) ≡ None → (place (cut p u) ≡ None → place (cut p (drop y u)) ≡ None) → place (cut p (drop y u)) ≡ None
     by true e f = let z : ◌≡◌ {A = ℕ} 0 1 = cc in let f : ⊥ = omega arith in absurd f
     by false e f = f (inner (cut p u) e)
 
@@ -82,36 +81,36 @@ module _ {c : Text} {t n : ℕ} (g : Later c t n) (h : t < length c) (y : ℕ) (
   from_y = let z : t + 6 + (y - (t + 6)) ≡ y = omega arith in
       sym (ap (λ (u : Text). place (cut view u)) (drop-drop (y - (t + 6)) (t + 6) c ∙ ap (λ (j : ℕ). drop j c) z))
 
-  pub none_behind : length c - (t + 6) ≤ n → place (cut view (drop y c)) ≡ none
+  pub none_behind : length c - (t + 6) ≤ n → place (cut view (drop y c)) ≡ None
   none_behind f = let l = length-drop (t + 6) c in
       from_y ∙ never_later view (drop (t + 6) c) (y - (t + 6)) (unplaced_at (g.past h) (omega arith))
 
-  pub first_behind : n < length c - (t + 6) → y ≤ t + 6 + n → place (cut view (drop y c)) ≡ some (t + 6 + n - y)
+  pub first_behind : n < length c - (t + 6) → y ≤ t + 6 + n → place (cut view (drop y c)) ≡ Some (t + 6 + n - y)
   first_behind f m = let l = length-drop (t + 6) c in
-      from_y ∙ later_start view (drop (t + 6) c) (y - (t + 6)) n (placed_at (g.past h) (omega arith)) (omega arith) ∙ ap some (omega arith)
+      from_y ∙ later_start view (drop (t + 6) c) (y - (t + 6)) n (placed_at (g.past h) (omega arith)) (omega arith) ∙ ap Some (omega arith)
 
 -- ── where the inner tensor view opens ──
 
 module _ {c : Text} {r : Places} (g : Placed c r) (b : Text) where
-  pub opened_named : r.named < length c → opened c b ≡ some (drop (r.named + 35) c)
+  pub opened_named : r.named < length c → opened c b ≡ Some (drop (r.named + 35) c)
   unfolding opened
   opened_named h = rw (placed g.named h)
 
   module _ (n : length c ≤ r.named) where
-    pub opened_prefixed : r.prefixed < length c → opened c b ≡ some (drop (r.prefixed + 23) c)
+    pub opened_prefixed : r.prefixed < length c → opened c b ≡ Some (drop (r.prefixed + 23) c)
     unfolding opened
     opened_prefixed h = rw (unplaced g.named n, placed g.prefixed h)
 
     module _ (m : length c ≤ r.prefixed) where
-      pub opened_plain : (k : ℕ) → place (cut view b) ≡ some k → opened c b ≡ some (drop (k + 12) b)
+      pub opened_plain : (k : ℕ) → place (cut view b) ≡ Some k → opened c b ≡ Some (drop (k + 12) b)
       unfolding opened
       opened_plain k f = rw (unplaced g.named n, unplaced g.prefixed m, cut_at view b k f)
 
-      pub opened_none : place (cut view b) ≡ none → opened c b ≡ none
+      pub opened_none : place (cut view b) ≡ None → opened c b ≡ None
       unfolding opened
       opened_none f = rw (unplaced g.named n, unplaced g.prefixed m, cut_nowhere view b f)
 
-pub fits_behind : (p c : Text) (y n : ℕ) → y ≤ length c → place (cut p (drop y c)) ≡ some n → y + n + length p ≤ length c
+pub fits_behind : (p c : Text) (y n : ℕ) → y ≤ length c → place (cut p (drop y c)) ≡ Some n → y + n + length p ≤ length c
 fits_behind p c y n h f = let a = cut_within p (drop y c) n f in let d = length-drop y c in omega arith
 
 -- n bytes behind y, and its prefix

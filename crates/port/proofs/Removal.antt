@@ -1,12 +1,11 @@
 -- Laws of removing a text m, that is not empty, from a text: it is removed at its first place, and then from what follows.
-use Rattle.std.specs.Prelude.{if◌then◌else◌}
+use Rattle.std.specs.Prelude.{if◌then◌else◌, None, Some}
 use Prim.Native.Nat.{ℕ, zero, suc, ◌+◌, ◌-◌, ◌≤◌, ◌<◌}
 use native.Mathlib.Nat.{add_assoc, add-zero}
 use native.Mathlib.Numerals.{add-one, sub-one}
 use native.Mathlib.Omega.{arith}
 use mathlib.Core.Bool.{Bool, true, false, false≢true}
 use mathlib.Core.List.{List, [], ◌∷◌, ◌++◌, append_assoc, append-nil}
-use mathlib.Core.Option.{none, some}
 use mathlib.Core.Path.{◌≡◌, refl, sym, ap, subst, ◌∙◌}
 use lib.ListN.{length, take, drop, set, get_or, length-set, length-append, length-drop}
 use lib.Seq.{take-suc, take-suc-set, take_all, length-take-le}
@@ -100,18 +99,18 @@ mark_is = refl
 
 -- what the seeker's answer says
 module _ {f : Found} (t : List ℕ) (e : spot f ≡ place (cut mark t)) where
-  pub seen : {i : ℕ} → f ≡ At i → place (cut sought t) ≡ some i
+  pub seen : {i : ℕ} → f ≡ At i → place (cut sought t) ≡ Some i
   seen g = ap (λ (m : List ℕ). place (cut m t)) (sym mark_is) ∙ sym e ∙ ap spot g
 
   pub seen_within : {i : ℕ} → f ≡ At i → i + 27 ≤ length t
   seen_within {i} g = cut_within sought t i (seen g)
 
-  pub unseen : f ≡ Nowhere → place (cut sought t) ≡ none
+  pub unseen : f ≡ Nowhere → place (cut sought t) ≡ None
   unseen g = ap (λ (m : List ℕ). place (cut m t)) (sym mark_is) ∙ sym e ∙ ap spot g
 
 -- the first place, as it was told
-module _ (t : List ℕ) {i : ℕ} (e : place (cut mark t) ≡ some i) where
-  pub first_sought : place (cut sought t) ≡ some i
+module _ (t : List ℕ) {i : ℕ} (e : place (cut mark t) ≡ Some i) where
+  pub first_sought : place (cut sought t) ≡ Some i
   first_sought = ap (λ (m : List ℕ). place (cut m t)) (sym mark_is) ∙ e
 
   pub first_within : i + 27 ≤ length t
@@ -157,11 +156,11 @@ pub record Left (m text room : List ℕ) (n : ℕ) (t : List ℕ) : Type 0 where
 pub all_left : (m text room : List ℕ) → length text ≤ length room → Left m text room 0 text
 all_left m text room h = record { fits = omega arith; same = refl }
 
-pub shorter : (m t : List ℕ) (i : ℕ) → 0 < length m → place (cut m t) ≡ some i → length (take (length t - (i + length m)) (drop (i + length m) t)) < length t
+pub shorter : (m t : List ℕ) (i : ℕ) → 0 < length m → place (cut m t) ≡ Some i → length (take (length t - (i + length m)) (drop (i + length m) t)) < length t
 shorter m t i h p = rw (rest t (i + length m), length-drop) (omega (arith, cut_within m t i p))
 
 module _ {m text room t : List ℕ} {n : ℕ} (u : List ℕ) (e : ℕ) (h : 0 < length m) (k : length u ≡ length room) (l : Left m text room n t) where
-  pub less_left : (i : ℕ) → place (cut m t) ≡ some i → Copied (take i t) room u n e
+  pub less_left : (i : ℕ) → place (cut m t) ≡ Some i → Copied (take i t) room u n e
       → Left m text u e (take (length t - (i + length m)) (drop (i + length m) t))
   less_left i p c = record {
     fits = rw rest (omega (arith, length-take-le i t (omega (arith, cut_within m t i p)), length-drop (i + length m) t, cut_within m t i p, c.0, l.fits));
@@ -169,5 +168,5 @@ module _ {m text room t : List ℕ} {n : ℕ} (u : List ℕ) (e : ℕ) (h : 0 < 
         (ap (λ (x : List ℕ). take n room ++ x) (sym (remove_at m h t (take i t) (drop (i + length m) t) (cut_at m t i p))) ∙ l.same);
   }
 
-  pub none_left : place (cut m t) ≡ none → Copied t room u n e → (e ≤ length u) × (take e u ≡ remove m text)
+  pub none_left : place (cut m t) ≡ None → Copied t room u n e → (e ≤ length u) × (take e u ≡ remove m text)
   none_left p c = (omega (arith, c.0, l.fits), c.1 ∙ ap (λ (x : List ℕ). take n room ++ x) (sym (remove_none m h t (cut_nowhere m t p))) ∙ l.same)

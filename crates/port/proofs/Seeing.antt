@@ -1,12 +1,11 @@
 -- Laws of what is seen: one byte more, an anchor, a block, an end, a later start.
-use Rattle.std.specs.Prelude.{if◌then◌else◌}
+use Rattle.std.specs.Prelude.{if◌then◌else◌, Option, None, Some}
 use Prim.Native.Nat.{ℕ, zero, suc, ◌+◌, ◌-◌, ◌≤◌, ◌<◌}
 use native.Mathlib.Nat.{add-zero}
 use native.Mathlib.Numerals.{add-one}
 use native.Mathlib.Omega.{arith}
 use mathlib.Core.Bool.{Bool, true, false, ◌&&◌, ◌||◌, false≢true}
 use mathlib.Core.List.{[], ◌∷◌}
-use mathlib.Core.Option.{Option, none, some}
 use mathlib.Core.Path.{◌≡◌, refl, sym, ap, ◌∙◌}
 use borrow.Author.Tests.{eqb-true, eq-eqb, ltb-true, ltb-false}
 use lib.Dec.{eqb, ltb}
@@ -90,7 +89,7 @@ quiet p (b ∷ s) (suc k) h =
     ∙ ahead p b (take (suc k) s) (take k s) (begins p (b ∷ take k s)) (quiet p s k (λ a e. h (suc a) (omega arith)))
 
 -- the first that ends
-pub first : (p s : Text) (k a : ℕ) → 0 < length p → seen p k s ≡ none → a + length p ≡ suc k → begins p (drop a s) ≡ true → seen p (suc k) s ≡ some a
+pub first : (p s : Text) (k a : ℕ) → 0 < length p → seen p k s ≡ None → a + length p ≡ suc k → begins p (drop a s) ≡ true → seen p (suc k) s ≡ Some a
 first p s k zero l n e h = unshifted (seen p (suc k) s) ∙ hit p (take (suc k) s) 0 (enough p s (suc k) (omega arith) h)
 first [] [] k (suc a) l n e h = let f : ⊥ = omega arith in absurd f
 first (c ∷ p) [] k (suc a) l n e h = absurd (false≢true h)
@@ -99,32 +98,32 @@ first p (b ∷ s) (suc k) (suc a) l n e h =
     ap (by_front p b (take (suc k) s)) (fronts p (b ∷ s) (suc k) (λ g. let f : ⊥ = omega arith in absurd f))
     ∙ by (begins p (b ∷ take k s)) n (λ m. first p s k a l m (omega arith) h)
   where
-    back : (c : Cut) → place (later b c) ≡ none → place c ≡ none
+    back : (c : Cut) → place (later b c) ≡ None → place c ≡ None
     back nowhere e = refl
     back (at u t) e = let z : ◌≡◌ {A = ℕ} 0 1 = cc in let f : ⊥ = omega arith in absurd f
 
-    by : (d : Bool) → by_front p b (take k s) d ≡ none → (seen p k s ≡ none → seen p (suc k) s ≡ some a) → by_front p b (take (suc k) s) d ≡ some (suc a)
+    by : (d : Bool) → by_front p b (take k s) d ≡ None → (seen p k s ≡ None → seen p (suc k) s ≡ Some a) → by_front p b (take (suc k) s) d ≡ Some (suc a)
     by true n f = let z : ◌≡◌ {A = ℕ} 0 1 = cc in let f : ⊥ = omega arith in absurd f
-    by false n f = one_later b (cut p (take (suc k) s)) ∙ ap (shifted 1) (f (back (cut p (take k s)) n)) ∙ ap some (omega arith)
+    by false n f = one_later b (cut p (take (suc k) s)) ∙ ap (shifted 1) (f (back (cut p (take k s)) n)) ∙ ap Some (omega arith)
 
 -- the first stays the first
-pub kept : (p s : Text) (k i : ℕ) → 0 < length p → seen p k s ≡ some i → seen p (suc k) s ≡ some i
+pub kept : (p s : Text) (k i : ℕ) → 0 < length p → seen p k s ≡ Some i → seen p (suc k) s ≡ Some i
 kept p [] zero i l e = e
 kept p [] (suc k) i l e = e
 kept [] (b ∷ s) zero i l e = let f : ⊥ = omega arith in absurd f
 kept (c ∷ p) (b ∷ s) zero i l e = let z : ◌≡◌ {A = ℕ} 0 1 = cc in let f : ⊥ = omega arith in absurd f
 kept p (b ∷ s) (suc k) i l e = by (begins p (b ∷ take k s)) refl e (kept p s k)
   where
-    inner : (c : Cut) → place (later b c) ≡ some i → place c ≡ some (i - 1)
+    inner : (c : Cut) → place (later b c) ≡ Some i → place c ≡ Some (i - 1)
     inner nowhere e = let z : ◌≡◌ {A = ℕ} 0 1 = cc in let f : ⊥ = omega arith in absurd f
-    inner (at u t) e = let n : suc (length u) ≡ i = cc in ap some (omega arith)
+    inner (at u t) e = let n : suc (length u) ≡ i = cc in ap Some (omega arith)
 
-    positive : (c : Cut) → place (later b c) ≡ some i → 0 < i
+    positive : (c : Cut) → place (later b c) ≡ Some i → 0 < i
     positive nowhere e = let z : ◌≡◌ {A = ℕ} 0 1 = cc in let f : ⊥ = omega arith in absurd f
     positive (at u t) e = let n : suc (length u) ≡ i = cc in omega arith
 
-    by : (d : Bool) → begins p (b ∷ take k s) ≡ d → by_front p b (take k s) d ≡ some i → ((j : ℕ) → 0 < length p → seen p k s ≡ some j → seen p (suc k) s ≡ some j)
-        → by_front p b (take (suc k) s) (begins p (b ∷ take (suc k) s)) ≡ some i
+    by : (d : Bool) → begins p (b ∷ take k s) ≡ d → by_front p b (take k s) d ≡ Some i → ((j : ℕ) → 0 < length p → seen p k s ≡ Some j → seen p (suc k) s ≡ Some j)
+        → by_front p b (take (suc k) s) (begins p (b ∷ take (suc k) s)) ≡ Some i
     by true g e f = ap (by_front p b (take (suc k) s)) (more p (b ∷ s) (suc k) g) ∙ e
     by false g e f =
         let q = inner (cut p (take k s)) e in
@@ -132,20 +131,20 @@ kept p (b ∷ s) (suc k) i l e = by (begins p (b ∷ take k s)) refl e (kept p s
         let w = cut_within p (take k s) (i - 1) q in
         let t = length-take k s in
         ap (by_front p b (take (suc k) s)) (fronts p (b ∷ s) (suc k) (λ x. let f : ⊥ = omega arith in absurd f) ∙ g)
-        ∙ one_later b (cut p (take (suc k) s)) ∙ ap (shifted 1) (f (i - 1) l q) ∙ ap some (omega arith)
+        ∙ one_later b (cut p (take (suc k) s)) ∙ ap (shifted 1) (f (i - 1) l q) ∙ ap Some (omega arith)
 
 -- what is first seen with the last byte ends there
-pub fresh : (p s : Text) (k u : ℕ) → 0 < length p → seen p k s ≡ none → seen p (suc k) s ≡ some u → u + length p ≡ suc k
+pub fresh : (p s : Text) (k u : ℕ) → 0 < length p → seen p k s ≡ None → seen p (suc k) s ≡ Some u → u + length p ≡ suc k
 fresh p s k u l n e = by (ltb k (length p - 1)) refl (begins p (drop (suc k - length p) s)) refl
   where
-    no : none ≡ some u → u + length p ≡ suc k
+    no : None ≡ Some u → u + length p ≡ suc k
     no e = let z : ◌≡◌ {A = ℕ} 0 1 = cc in let f : ⊥ = omega arith in absurd f
 
     by : (d : Bool) → ltb k (length p - 1) ≡ d → (b : Bool) → begins p (drop (suc k - length p) s) ≡ b → u + length p ≡ suc k
     by true f b g = let h = ltb-true k (length p - 1) f in no (sym (quiet p s k (λ a x. let f : ⊥ = omega arith in absurd f) ∙ n) ∙ e)
     by false f true g =
         let h = ltb-false k (length p - 1) f in
-        let x : some (suc k - length p) ≡ some u = sym (first p s k (suc k - length p) l n (omega arith) g) ∙ e in
+        let x : Some (suc k - length p) ≡ Some u = sym (first p s k (suc k - length p) l n (omega arith) g) ∙ e in
         let y : suc k - length p ≡ u = cc in omega arith
     by false f false g = let h = ltb-false k (length p - 1) f in no (sym (quiet p s k (λ a x.
         let y : a ≡ suc k - length p = omega arith in ap (λ (z : ℕ). begins p (drop z s)) y ∙ g) ∙ n) ∙ e)
@@ -175,10 +174,10 @@ module _ (p s : Text) (j m : ℕ) (l : j + suc m ≡ length p) where
       let x : a ≡ i - j = omega arith in ap (λ (k : ℕ). begins p (drop k s)) x ∙ n)
 
   -- where it stands, it is the first
-  pub sighted : (i : ℕ) → j ≤ i → seen p (i + m) s ≡ none → begins p (drop (i - j) s) ≡ true → seen p (i + 1 + m) s ≡ some (i - j)
+  pub sighted : (i : ℕ) → j ≤ i → seen p (i + m) s ≡ None → begins p (drop (i - j) s) ≡ true → seen p (i + 1 + m) s ≡ Some (i - j)
   sighted i h n e = on i ∙ first p s (i + m) (i - j) (omega arith) n (omega arith) e
 
-  pub stays : (i n : ℕ) → seen p (i + m) s ≡ some n → seen p (i + 1 + m) s ≡ some n
+  pub stays : (i n : ℕ) → seen p (i + m) s ≡ Some n → seen p (i + 1 + m) s ≡ Some n
   stays i n e = on i ∙ kept p s (i + m) n (omega arith) e
 
   -- a block with no anchor changes nothing

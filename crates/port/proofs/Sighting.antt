@@ -1,11 +1,10 @@
 -- Laws of a number that says what is seen of one keyword p, which is known by its byte j, with m bytes behind it.
-use Rattle.std.specs.Prelude.{if◌then◌else◌}
+use Rattle.std.specs.Prelude.{if◌then◌else◌, Option, None, Some}
 use Prim.Native.Nat.{ℕ, suc, ◌+◌, ◌-◌, ◌≤◌, ◌<◌}
 use native.Mathlib.Nat.{add-zero}
 use native.Mathlib.Omega.{arith}
 use mathlib.Core.Bool.{Bool, true, false}
 use mathlib.Core.List.{[], ◌∷◌}
-use mathlib.Core.Option.{Option, none, some}
 use mathlib.Core.Path.{◌≡◌, refl, sym, ap, subst, ◌∙◌}
 use borrow.Author.Tests.{lt-ltb, le-ltb, ltb-true, ltb-false, eqb-false}
 use lib.Dec.{eqb, ltb}
@@ -17,23 +16,23 @@ use Rattle.port.specs.Seen.{told, Sight, key}
 use Rattle.port.specs.Keys.{Spot}
 use Rattle.port.proofs.Seeing as S
 
-pub told_some : (n i : ℕ) → i < n → told n i ≡ some i
+pub told_some : (n i : ℕ) → i < n → told n i ≡ Some i
 told_some n i h = rw (lt-ltb i n h)
 
-pub told_none : (n i : ℕ) → n ≤ i → told n i ≡ none
+pub told_none : (n i : ℕ) → n ≤ i → told n i ≡ None
 told_none n i h = rw (le-ltb i n h)
 
-pub told_is : (n i : ℕ) {j : ℕ} → told n i ≡ some j → i ≡ j
+pub told_is : (n i : ℕ) {j : ℕ} → told n i ≡ Some j → i ≡ j
 told_is n i {j} e = by (ltb i n) e
   where
-    by : (d : Bool) → (if d then some i else none) ≡ some j → i ≡ j
+    by : (d : Bool) → (if d then Some i else None) ≡ Some j → i ≡ j
     by true e = cc
     by false e = let z : ◌≡◌ {A = ℕ} 0 1 = cc in let f : ⊥ = omega arith in absurd f
 
-pub told_none_is : (n i : ℕ) → told n i ≡ none → n ≤ i
+pub told_none_is : (n i : ℕ) → told n i ≡ None → n ≤ i
 told_none_is n i e = by (ltb i n) (ltb-false i n) e
   where
-    by : (d : Bool) → (d ≡ false → n ≤ i) → (if d then some i else none) ≡ none → n ≤ i
+    by : (d : Bool) → (d ≡ false → n ≤ i) → (if d then Some i else None) ≡ None → n ≤ i
     by true f e = let z : ◌≡◌ {A = ℕ} 0 1 = cc in let f : ⊥ = omega arith in absurd f
     by false f e = f refl
 
@@ -41,9 +40,9 @@ told_none_is n i e = by (ltb i n) (ltb-false i n) e
 pub narrow : (N n : ℕ) (p c : Text) → told N n ≡ place (cut p c) → 0 < length p → length c ≤ N → told (length c) n ≡ place (cut p c)
 narrow N n p c e l h = by (place (cut p c)) e (λ k q. cut_within p c k q)
   where
-    by : (o : Option ℕ) → told N n ≡ o → ((k : ℕ) → o ≡ some k → k + length p ≤ length c) → told (length c) n ≡ o
-    by none e f = told_none (length c) n (let g = told_none_is N n e in omega arith)
-    by (some k) e f = let z = told_is N n e in let w = f k refl in told_some (length c) n (omega arith) ∙ ap some z
+    by : (o : Option ℕ) → told N n ≡ o → ((k : ℕ) → o ≡ Some k → k + length p ≤ length c) → told (length c) n ≡ o
+    by None e f = told_none (length c) n (let g = told_none_is N n e in omega arith)
+    by (Some k) e f = let z = told_is N n e in let w = f k refl in told_some (length c) n (omega arith) ∙ ap Some z
 
 -- ── one keyword, sighted ──
 

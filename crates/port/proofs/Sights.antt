@@ -1,10 +1,9 @@
 -- Laws of what the three views share, by what the callees tell: the tile shape, the inner tensor view, the whole view; and of the three views themselves.
-use Rattle.std.specs.Prelude.{if◌then◌else◌}
+use Rattle.std.specs.Prelude.{if◌then◌else◌, Option, None, Some}
 use Prim.Native.Nat.{ℕ, ◌+◌, ◌-◌, ◌≤◌, ◌<◌}
 use native.Mathlib.Omega.{arith}
 use mathlib.Core.Bool.{Bool, true, false, false≢true}
 use mathlib.Core.List.{List, []}
-use mathlib.Core.Option.{Option, none, some}
 use mathlib.Core.Path.{◌≡◌, refl, sym, ap, subst, ◌∙◌}
 use lib.IntN.{pos}
 use lib.ListN.{length, take, drop, replicate, length-map}
@@ -39,8 +38,8 @@ use Rattle.port.proofs.Clauses.{next, next_within, no_next, entries_are, list_or
 -- ── the tile shape ──
 
 module _ (s : Text) where
-  module _ (i : ℕ) (e : place (cut (bytes "tile=(") s) ≡ some i) where
-    pub tile_closed : (n : ℕ) → place (cut (bytes ")") (take (length s - (i + 6)) (drop (i + 6) s))) ≡ some n
+  module _ (i : ℕ) (e : place (cut (bytes "tile=(") s) ≡ Some i) where
+    pub tile_closed : (n : ℕ) → place (cut (bytes ")") (take (length s - (i + 6)) (drop (i + 6) s))) ≡ Some n
         → (l : List32) → list32 l ≡ laid 8 (stands (W.tile_entries (take (i + 6 + n - (i + 6)) (drop (i + 6) s))))
         → TileIs s i (record { found = true; tile = l; behind = i + 6 + n + 1 }) (between (bytes "tile=(") (bytes ")") s)
     tile_closed n f l r =
@@ -56,18 +55,18 @@ module _ (s : Text) where
           fits = omega (arith, next_within (bytes "tile=(") s i e (bytes ")") n f);
         })
 
-    pub tile_unclosed : place (cut (bytes ")") (take (length s - (i + 6)) (drop (i + 6) s))) ≡ none
+    pub tile_unclosed : place (cut (bytes ")") (take (length s - (i + 6)) (drop (i + 6) s))) ≡ None
         → (r : TileShape) → r.found ≡ false → TileIs s i r (between (bytes "tile=(") (bytes ")") s)
     tile_unclosed f r h =
         subst (TileIs s i r) (sym (ap (up_to (bytes ")")) (cut_at (bytes "tile=(") s i e) ∙ no_next (bytes "tile=(") s i e (bytes ")") f)) h
 
-  pub tile_absent : (i : ℕ) → place (cut (bytes "tile=(") s) ≡ none → (r : TileShape) → r.found ≡ false → TileIs s i r (between (bytes "tile=(") (bytes ")") s)
+  pub tile_absent : (i : ℕ) → place (cut (bytes "tile=(") s) ≡ None → (r : TileShape) → r.found ≡ false → TileIs s i r (between (bytes "tile=(") (bytes ")") s)
   tile_absent i e r h = subst (TileIs s i r) (sym (ap (up_to (bytes ")")) (cut_nowhere (bytes "tile=(") s e))) h
 
 -- ── the inner tensor view ──
 
 -- nothing stands in an empty content
-empty : T.tensor [] ≡ none
+empty : T.tensor [] ≡ None
 unfolding T.tensor T.tensor_parts scalar_name
 empty = refl
 
@@ -78,7 +77,7 @@ module _ {r : Tensor} (c : Text) (i : ℕ) {q : Scanning} (g : Scanned (take (le
       let e = sym g.end ∙ told_some (length (take (length c - i) (drop i c))) q.end l in
       rw (close_at (drop i c) q.end (rw (rest c i) at e)) (rw (rest c i) at h)
 
-  pub enclosed_nowhere : length (take (length c - i) (drop i c)) ≤ q.end → TensorIs r none → TensorIs r (T.tensor (W.enclosed (close 0 (drop i c))))
+  pub enclosed_nowhere : length (take (length c - i) (drop i c)) ≤ q.end → TensorIs r None → TensorIs r (T.tensor (W.enclosed (close 0 (drop i c))))
   enclosed_nowhere l h =
       let e = sym g.end ∙ told_none (length (take (length c - i) (drop i c))) q.end l in
       rw (close_nowhere (drop i c) (rw (rest c i) at e), empty) h
@@ -90,12 +89,12 @@ module _ {r : Tensor} (c b : Text) where
   pub opened_at : {i : ℕ} {q : Found} → W.opened c b ≡ from c (spot q) → q ≡ At i → TensorIs r (T.tensor (W.enclosed (close 0 (drop i c)))) → TensorIs r (W.inner_by (W.opened c b))
   opened_at e q h = subst (λ (o : Option Text). TensorIs r (W.inner_by o)) (sym (e ∙ ap (λ (f : Found). from c (spot f)) q)) h
 
-  pub opened_nowhere : {q : Found} → W.opened c b ≡ from c (spot q) → q ≡ Nowhere → TensorIs r none → TensorIs r (W.inner_by (W.opened c b))
+  pub opened_nowhere : {q : Found} → W.opened c b ≡ from c (spot q) → q ≡ Nowhere → TensorIs r None → TensorIs r (W.inner_by (W.opened c b))
   opened_nowhere e q h = subst (λ (o : Option Text). TensorIs r (W.inner_by o)) (sym (e ∙ ap (λ (f : Found). from c (spot f)) q)) h
 
 -- ── the view ──
 
-taken : {A B : Type 0} (f : A → B) (a : A) (d : Bool) → (if d then some (f a) else none) ≡ each f (if d then some a else none)
+taken : {A B : Type 0} (f : A → B) (a : A) (d : Bool) → (if d then Some (f a) else None) ≡ each f (if d then Some a else None)
 taken f a true = refl
 taken f a false = refl
 
@@ -104,11 +103,11 @@ wrap l q x = record { tile = l; tensor = x; padding = q }
 
 wrapped : (es : List Entry) (q : Padding) (o : Option T.Tensor)
     → each (wrap (laid 8 (stands es)) q) (each (tensored 8) o) ≡ each (viewed 8) (each (λ v. record { tile = es; tensor = v; padding = q }) o)
-wrapped es q none = refl
-wrapped es q (some x) = refl
+wrapped es q None = refl
+wrapped es q (Some x) = refl
 
 module _ (s : Text) (i : ℕ) (t : TileShape) where
-  untiled : (c : Cut) → TileIs s i t c → t.found ≡ false → W.view_by s c ≡ none
+  untiled : (c : Cut) → TileIs s i t c → t.found ≡ false → W.view_by s c ≡ None
   untiled nowhere h f = refl
   untiled (at u b) h f = absurd (false≢true (sym f ∙ h.found))
 
@@ -130,7 +129,7 @@ module _ (s : Text) (i : ℕ) (t : TileShape) where
     }
 
   module _ (h : TileIs s i t (between (bytes "tile=(") (bytes ")") s)) where
-    pub no_view : t.found ≡ false → {r : View} → ViewIs r none → ViewIs r (W.view s)
+    pub no_view : t.found ≡ false → {r : View} → ViewIs r None → ViewIs r (W.view s)
     unfolding W.view
     no_view f {r} g = subst (ViewIs r) (sym (untiled (between (bytes "tile=(") (bytes ")") s) h f)) g
 
@@ -146,23 +145,23 @@ module _ (s : Text) (i : ℕ) (t : TileShape) where
 -- what the code says that it built, of a view and the lists of its kind
 abbrev pub view_built : Kind → View → Laid → Laid → Laid → Option Carried
 view_built k v m t z =
-    some (built k v.tensor.element false (list64 v.tensor.shape) (list64 v.tensor.strides) (list32 v.tile) m t z v.padding)
+    Some (built k v.tensor.element false (list64 v.tensor.shape) (list64 v.tensor.strides) (list32 v.tile) m t z v.padding)
 
 module _ (s : Text) {v : View} (g : ViewIs v (W.view s)) where
   -- ── without a view there is none of the three ──
 
-  lacks : v.found ≡ false → W.view s ≡ none
+  lacks : v.found ≡ false → W.view s ≡ None
   lacks = B.lacks (viewed 8) (view_parts v) (W.view s) g.is
 
-  pub no_partition : v.found ≡ false → none ≡ each (carried 8) (W.partition_view s)
+  pub no_partition : v.found ≡ false → None ≡ each (carried 8) (W.partition_view s)
   unfolding W.partition_view
   no_partition f = sym (ap (λ (o : Option W.View). each (carried 8) (W.partition_from (W.list_after (bytes "dim_map=[") s) o)) (lacks f))
 
-  pub no_gather : v.found ≡ false → none ≡ each (carried 8) (W.gather_scatter_view s)
+  pub no_gather : v.found ≡ false → None ≡ each (carried 8) (W.gather_scatter_view s)
   unfolding W.gather_scatter_view
   no_gather f = rw (lacks f)
 
-  pub no_strided : v.found ≡ false → none ≡ each (carried 8) (W.strided_view s)
+  pub no_strided : v.found ≡ false → None ≡ each (carried 8) (W.strided_view s)
   unfolding W.strided_view
   no_strided f = rw (lacks f)
 
@@ -189,15 +188,15 @@ module _ (s : Text) {v : View} (g : ViewIs v (W.view s)) where
     or_own c q e h = h ∙ ap (λ (o : Laid). list_laid o q) e ∙ list_or_laid c q
 
     -- an unclosed list refuses a partition view
-    pub partition_unclosed : ListIs s C.Unclosed (W.list_after (bytes "dim_map=[") s) → none ≡ each (carried 8) (W.partition_view s)
+    pub partition_unclosed : ListIs s C.Unclosed (W.list_after (bytes "dim_map=[") s) → None ≡ each (carried 8) (W.partition_view s)
     unfolding W.partition_view
     partition_unclosed l = λ i. each (carried 8) (W.partition_from (l.is i) (sym has.is i))
 
     module _ {x : Option Carried} {m t z : Laid} where
       module _ (k : Kind) (w : x ≡ view_built k v m t z) where
         built_is : (map traversal sparse : Clause) → m ≡ laid 8 map → t ≡ laid 8 traversal → z ≡ laid 8 sparse
-            → x ≡ some (carried 8 (W.view_of k map traversal sparse has.value))
-        built_is map traversal sparse a b c = w ∙ ap some (B.view_is (view_parts v) k map traversal sparse has.value has.same a b c)
+            → x ≡ Some (carried 8 (W.view_of k map traversal sparse has.value))
+        built_is map traversal sparse a b c = w ∙ ap Some (B.view_is (view_parts v) k map traversal sparse has.value has.same a b c)
 
       module _ (w : x ≡ view_built K.Partition v m t z) (b : t ≡ laid 8 unused) (c : z ≡ laid 8 unused) where
         pub partition_listed : (a e : ℕ) → ListIs s (C.Between a e) (W.list_after (bytes "dim_map=[") s)

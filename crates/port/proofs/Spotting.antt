@@ -1,10 +1,9 @@
 -- The first place of the mark, by two of its bytes: a mark has a `#`, and its one `>` at its end.
 -- So the first `>` behind a `#` ends the first mark, or no mark stands before it.
-use Rattle.std.specs.Prelude.{if◌then◌else◌}
+use Rattle.std.specs.Prelude.{if◌then◌else◌, None, Some}
 use mathlib.Core.Path.{◌≡◌, refl, sym, ap, ◌∙◌}
 use mathlib.Core.Bool.{Bool, true, false, ◌&&◌, false≢true}
 use mathlib.Core.List.{List, [], ◌∷◌}
-use mathlib.Core.Option.{none, some}
 use Prim.Native.Nat.{ℕ, zero, suc, ◌+◌, ◌-◌, ◌≤◌, ◌<◌}
 use native.Mathlib.Nat.{add-zero}
 use native.Mathlib.Omega.{arith}
@@ -88,7 +87,7 @@ module _ (m s : List ℕ) where
       let n : i + (e - i) ≡ e = omega arith in
       skip i (e - i) (omega arith) (λ p a b. f p a (omega arith)) ∙ ap (λ (n : ℕ). shifted n (place (cut m (drop n s)))) n
 
-  nowhere_from : (i : ℕ) → i ≤ length s → ((p : ℕ) → i ≤ p → begins m (drop p s) ≡ true → ⊥) → shifted i (place (cut m (drop i s))) ≡ none
+  nowhere_from : (i : ℕ) → i ≤ length s → ((p : ℕ) → i ≤ p → begins m (drop p s) ≡ true → ⊥) → shifted i (place (cut m (drop i s))) ≡ None
   nowhere_from i l f =
       skip_to i (length s) l (omega arith) (λ p a b. f p a)
       ∙ gone m s (length s) (omega arith) (refuted (begins m (drop (length s) s)) (f (length s) l))
@@ -107,7 +106,7 @@ module _ (s : List ℕ) (i : ℕ) {h : ℕ} (l : i ≤ length s) (a : h ≡ i + 
   behind : (p : ℕ) → i ≤ p → begins sought (drop p s) ≡ true → h ≤ p + 2
   behind p k g = not_less (λ b. none_before 35 s i a (p + 2) (omega arith) b (at_byte s p g 2 (omega arith)))
 
-  pub no_hash : length s ≤ h → shifted i (place (cut sought (drop i s))) ≡ none
+  pub no_hash : length s ≤ h → shifted i (place (cut sought (drop i s))) ≡ None
   no_hash k = nowhere_from sought s i l (λ p b g. let x = behind p b g in let y = inside s p g in omega arith)
 
   module _ {e : ℕ} (b : e ≡ h + length (until (eqb 62) (drop h s))) where
@@ -115,7 +114,7 @@ module _ (s : List ℕ) (i : ℕ) {h : ℕ} (l : i ≤ length s) (a : h ≡ i + 
     ends : (p : ℕ) → i ≤ p → begins sought (drop p s) ≡ true → e ≤ p + 26
     ends p k g = not_less (λ c. none_before 62 s h b (p + 26) (let x = behind p k g in omega arith) c (at_byte s p g 26 (omega arith)))
 
-    pub no_end : length s ≤ e → shifted i (place (cut sought (drop i s))) ≡ none
+    pub no_end : length s ≤ e → shifted i (place (cut sought (drop i s))) ≡ None
     no_end k = nowhere_from sought s i l (λ p b g. let x = ends p b g in let y = inside s p g in omega arith)
 
     module _ (k : e < length s) where
@@ -128,7 +127,7 @@ module _ (s : List ℕ) (i : ℕ) {h : ℕ} (l : i ≤ length s) (a : h ≡ i + 
       abbrev pub Ending : Bool → Type 0
       Ending d = d ≡ begins sought (take (length s - (e - 26)) (drop (e - 26) s))
 
-      pub ends_here : i + 26 ≤ e → Ending true → shifted i (place (cut sought (drop i s))) ≡ some (e - 26)
+      pub ends_here : i + 26 ≤ e → Ending true → shifted i (place (cut sought (drop i s))) ≡ Some (e - 26)
       ends_here m g =
           skip_to sought s i (e - 26) (omega arith) (omega arith) (λ p b c d. let x = ends p b d in omega arith)
           ∙ hit sought s (e - 26) (sym (g ∙ ap (begins sought) (rest s (e - 26))))

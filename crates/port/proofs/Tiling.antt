@@ -3,7 +3,7 @@ use Prim.Native.Nat.{ℕ, ◌+◌, ◌-◌, ◌≤◌}
 use native.Mathlib.Omega.{arith}
 use mathlib.Core.Bool.{Bool}
 use mathlib.Core.List.{[], ◌∷◌}
-use mathlib.Core.Option.{Option, none, some}
+use Rattle.std.specs.Prelude.{Option, None, Some}
 use mathlib.Core.Path.{◌≡◌, sym, ap, ◌∙◌}
 use lib.Dec.{eqb}
 use lib.ListN.{length, take, drop}
@@ -28,11 +28,11 @@ use Rattle.port.proofs.Cutting.{cut_found, cut_none}
 
 -- x is what the code answers
 module _ {x : Option Carried} (p : Bool) (shape : Clause) {o : Option Scalar} where
-  pub tile_some : {a b : Laid} {e : Scalar} → x ≡ some (bare K.Tile e p a b) → o ≡ some e → a ≡ laid 8 shape → b ≡ laid 8 unused
+  pub tile_some : {a b : Laid} {e : Scalar} → x ≡ Some (bare K.Tile e p a b) → o ≡ Some e → a ≡ laid 8 shape → b ≡ laid 8 unused
       → x ≡ each (carried 8) (each (tile_of p shape) o)
-  tile_some {e = e} d n r u = d ∙ ap some (tile_is e p shape r u) ∙ sym (ap (λ (q : Option Scalar). each (carried 8) (each (tile_of p shape) q)) n)
+  tile_some {e = e} d n r u = d ∙ ap Some (tile_is e p shape r u) ∙ sym (ap (λ (q : Option Scalar). each (carried 8) (each (tile_of p shape) q)) n)
 
-  pub tile_none : x ≡ none → o ≡ none → x ≡ each (carried 8) (each (tile_of p shape) o)
+  pub tile_none : x ≡ None → o ≡ None → x ≡ each (carried 8) (each (tile_of p shape) o)
   tile_none d n = d ∙ sym (ap (λ (q : Option Scalar). each (carried 8) (each (tile_of p shape) q)) n)
 
 -- ── by the first `ptr<` ──
@@ -53,7 +53,7 @@ module _ {f : Found} (t : Text) (e : spot f ≡ place (cut (bytes ">") t)) where
   pub pointee_is : {i : ℕ} {n m : Named} → f ≡ At i → said n ≡ scalar_name (take i t) → n ≡ m → pointee (cut (bytes ">") t) ≡ said m
   pointee_is q d r = ap pointee (cut_found (bytes ">") t e q) ∙ sym d ∙ ap said r
 
-  pub pointee_none : f ≡ Nowhere → pointee (cut (bytes ">") t) ≡ none
+  pub pointee_none : f ≡ Nowhere → pointee (cut (bytes ">") t) ≡ None
   pointee_none q = ap pointee (cut_none (bytes ">") t e q)
 
 -- the dimensions before it, as they are read of s

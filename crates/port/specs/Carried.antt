@@ -1,6 +1,5 @@
 -- What the port's parts answer, for private contracts: a type that was found, each list as it is carried, and the reading that is made of it.
-use Rattle.std.specs.Prelude.{if◌then◌else◌, ℕ, zero, suc, ◌+◌, ◌-◌, ◌≤◌, Bool, true, false, ◌&&◌, ◌||◌, ◌≡◌, pos, leb, get_or, length, take, drop}
-use Rattle.std.proofs.Math.Option.{Option, none, some}
+use Rattle.std.specs.Prelude.{if◌then◌else◌, ℕ, zero, suc, ◌+◌, ◌-◌, ◌≤◌, Bool, true, false, ◌&&◌, ◌||◌, ◌≡◌, pos, leb, get_or, length, take, drop, Option, None, Some}
 use Rattle.lexis.specs.Text.{Text, Cut, nowhere, at}
 use Rattle.scalars.specs.declared.scalar.Scalar.{Scalar}
 use Rattle.meaning.specs.Found.{stands, Found}
@@ -122,8 +121,8 @@ lengths_within cap x =
     leb x.shape.row.len cap && leb x.strides.row.len cap && leb x.tile.row.len cap && leb x.map.row.len cap && leb x.traversal.row.len cap
 
 abbrev pub answered : Bool → Option Carried → Reading
-answered marked none = O.refused 8 NoType 0
-answered marked (some x) =
+answered marked None = O.refused 8 NoType 0
+answered marked (Some x) =
     if lengths_within 8 x then record { refusal = Accepted; place = 0; value = recorded marked x; note = noted x }
     else O.refused 8 TooMany 0
 
@@ -150,7 +149,7 @@ tensor_parts t = record { element = t.element; shape = list64 t.shape; strides =
 
 -- a record, so that what stands under it can be inferred
 pub record TensorIs (r : Tensor) (o : Option T.Tensor) : Type 0 where
-  pub is : (if r.found then some (tensor_parts r) else none) ≡ each (tensored 8) o
+  pub is : (if r.found then Some (tensor_parts r) else None) ≡ each (tensored 8) o
 
 -- ── what the three views share ──
 
@@ -166,7 +165,7 @@ abbrev pub view_parts : View → Viewed
 view_parts v = record { tile = list32 v.tile; tensor = tensor_parts v.tensor; padding = v.padding }
 
 pub record ViewIs (r : View) (o : Option W.View) : Type 0 where
-  pub is : (if r.found then some (view_parts r) else none) ≡ each (viewed 8) o
+  pub is : (if r.found then Some (view_parts r) else None) ≡ each (viewed 8) o
 
 -- ── the tile shape: what stands between the `tile=(` at a place and `)`, and where what follows begins ──
 
@@ -206,5 +205,5 @@ list_laid own (W.listed t) = laid 8 (W.entries t)
 -- ── a form: whether the one that opens with p applies, how long its content is then, and the places in it ──
 
 pub record Told (p s : Text) (r : Applied) : Type 0 where
-  pub is : (if r.applies then some r.len else none) ≡ each length (bracketed p s)
-  pub places : r.applies ≡ true → (c : Text) → bracketed p s ≡ some c → Placed c r.places
+  pub is : (if r.applies then Some r.len else None) ≡ each length (bracketed p s)
+  pub places : r.applies ≡ true → (c : Text) → bracketed p s ≡ Some c → Placed c r.places

@@ -1,6 +1,5 @@
 -- The forms with `!cuda_tile.` taken off: both spellings are read by one list (for private contracts).
-use Rattle.std.specs.Prelude.{if◌then◌else◌, List, [], ◌∷◌, drop}
-use Rattle.std.proofs.Math.Option.{Option, none, some}
+use Rattle.std.specs.Prelude.{if◌then◌else◌, List, [], ◌∷◌, drop, Option, None, Some}
 use Rattle.lexis.specs.Text.{Text, bytes, begins}
 use Rattle.scalars.specs.Names.{scalar_name}
 use Rattle.meaning.specs.Found.{Found, plain}
@@ -20,4 +19,4 @@ bare s = each (plain K.Scalar) (scalar_name s)
 -- the first form that applies to t decides; where none does, d
 abbrev pub first_of : List Form → Text → Option Found → Option Found
 first_of [] t d = d
-first_of (f ∷ fs) t d = elim (bracketed (bytes f.opens) t) [ some u ↦ f.content u | none ↦ first_of fs t d ]
+first_of (f ∷ fs) t d = elim (bracketed (bytes f.opens) t) [ Some u ↦ f.content u | None ↦ first_of fs t d ]

@@ -1,6 +1,5 @@
 -- The keywords: each with the number of its bytes behind the one by which it is known.
-use Rattle.std.specs.Prelude.{ℕ, ◌+◌, ◌-◌, ◌≤◌, ◌<◌, ◌≡◌, length, take, drop}
-use Rattle.std.proofs.Math.Option.{Option, none, some}
+use Rattle.std.specs.Prelude.{ℕ, ◌+◌, ◌-◌, ◌≤◌, ◌<◌, ◌≡◌, length, take, drop, Option, None, Some}
 use Rattle.lexis.specs.Text.{Text, bytes, cut, place}
 use Rattle.lexis.specs.declared.text.Found.{Found}
 use Rattle.lexis.specs.declared.text.Found.TheVariants.{At, Nowhere}
@@ -68,5 +67,5 @@ AtMost n Nowhere = Unit {0}
 
 -- what follows a place, where there is one
 abbrev pub from : Text → Option ℕ → Option Text
-from c none = none
-from c (some x) = some (drop x c)
+from c None = None
+from c (Some x) = Some (drop x c)

@@ -1,6 +1,5 @@
 -- The passes over the marks, for private contracts: the text without them, and the reading that goes on with it.
-use Rattle.std.specs.Prelude.{ℕ, zero, suc, ◌≤◌, ◌<◌, ◌≡◌, length, take}
-use Rattle.std.proofs.Math.Option.{Option, none}
+use Rattle.std.specs.Prelude.{ℕ, zero, suc, ◌≤◌, ◌<◌, ◌≡◌, length, take, Option, None}
 use Rattle.lexis.specs.Text.{Text, trim, nowhere, at, cut}
 use Rattle.meaning.specs.Found.{Found}
 use Rattle.meaning.specs.Parts.{remove}
@@ -14,5 +13,5 @@ pub record Rewritten (s room : Text) (n : ℕ) : Type 0 where
 
 -- `passes` of the definition, without the attribute
 abbrev pub reads_on : ℕ → Text → Option Found
-reads_on zero s = none
+reads_on zero s = None
 reads_on (suc n) s = elim (cut mark (trim s)) [ nowhere ↦ unmarked (trim s) | at u t ↦ reads_on n (remove mark (trim s)) ]

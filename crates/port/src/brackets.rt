@@ -1,6 +1,5 @@
 // Bracket cutting (01, module 3).
-ghost use Rattle.std.specs.Prelude.{◌≡◌, length};
-ghost use Rattle.std.proofs.Math.Option.{some};
+ghost use Rattle.std.specs.Prelude.{◌≡◌, length, Some};
 ghost use Rattle.meaning.specs.Parts.{each, bracketed};
 ghost use Rattle.port.specs.Carried.{Told};
 
@@ -38,8 +37,8 @@ pub(crate) fn applies(s: &[u8], prefix: &[u8]) -> Applied
 
 // The content of a form that applies: the part between the prefix and the matching bracket.
 pub(crate) fn strip_prefix_suffix<'a>(s: &'a [u8], prefix: &[u8], n: usize) -> &'a [u8]
-    requires { each length (bracketed prefix.now s.now) ≡ some n }
-    ensures { bracketed prefix.now s.now ≡ some result.now }
+    requires { each length (bracketed prefix.now s.now) ≡ Some n }
+    ensures { bracketed prefix.now s.now ≡ Some result.now }
 {
     let t = &s[prefix.len()..];
     &t[..n]

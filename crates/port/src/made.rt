@@ -1,6 +1,5 @@
 // Record and note of a type that was found, or its refusal: here alone they are put together.
-ghost use Rattle.std.specs.Prelude.{◌≤◌, ◌≡◌, ◌&&◌, leb};
-ghost use Rattle.std.proofs.Math.Option.{some};
+ghost use Rattle.std.specs.Prelude.{◌≤◌, ◌≡◌, ◌&&◌, leb, Some};
 ghost use Rattle.meaning.specs.Found.{unused, plain};
 ghost use Rattle.meaning.specs.declared.Padding.TheVariants.{Absent};
 ghost use Rattle.lists.specs.Laid.{laid, list64, list32};
@@ -59,7 +58,7 @@ pub(crate) fn made(
     marked: bool,
 ) -> Reading
     requires { Sound (list64 shape) (list64 strides) (list32 tile) (list32 map) (list32 traversal) (list32 sparse) }
-    ensures { result ≡ answered marked (some (built kind element pointer (list64 shape) (list64 strides) (list32 tile) (list32 map) (list32 traversal) (list32 sparse) padding)) }
+    ensures { result ≡ answered marked (Some (built kind element pointer (list64 shape) (list64 strides) (list32 tile) (list32 map) (list32 traversal) (list32 sparse) padding)) }
 {
     let a = shape.row;
     let b = strides.row;
@@ -114,7 +113,7 @@ pub(crate) fn simple(
     marked: bool,
 ) -> Reading
     requires { (fell (list64 shape) ≤ shape.row.len) × (fell (list64 strides) ≤ strides.row.len) }
-    ensures { result ≡ answered marked (some (built kind element pointer (list64 shape) (list64 strides) (laid 8 unused) (laid 8 unused) (laid 8 unused) (laid 8 unused) Absent)) }
+    ensures { result ≡ answered marked (Some (built kind element pointer (list64 shape) (list64 strides) (laid 8 unused) (laid 8 unused) (laid 8 unused) (laid 8 unused) Absent)) }
 {
     let l = lists::none32();
     made(
@@ -134,7 +133,7 @@ pub(crate) fn simple(
 
 // A type without lists.
 pub(crate) fn listless(kind: Kind, element: Scalar, marked: bool) -> Reading
-    ensures { result ≡ answered marked (some (carried 8 (plain kind element))) }
+    ensures { result ≡ answered marked (Some (carried 8 (plain kind element))) }
 {
     let l = lists::none64();
     simple(kind, element, false, l, l, marked)

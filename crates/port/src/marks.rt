@@ -1,6 +1,5 @@
 // Removing the pointer mark (01, module 7).
-ghost use Rattle.std.specs.Prelude.{◌+◌, ◌≤◌, ◌≡◌, ◌++◌, length, take};
-ghost use Rattle.std.proofs.Math.Option.{some};
+ghost use Rattle.std.specs.Prelude.{◌+◌, ◌≤◌, ◌≡◌, ◌++◌, length, take, Some};
 ghost use Rattle.lexis.specs.Text.{cut, place, spot};
 ghost use Rattle.meaning.specs.Parts.{remove};
 ghost use Rattle.meaning.specs.Ordinary.{mark};
@@ -46,7 +45,7 @@ pub(crate) fn copy(s: &[u8], room: &mut [u8], at: usize) -> usize
 
 // Copies `text` without its marks, the first of which stands at `first`, to the front of `room`, and returns how many bytes that is.
 fn remove(text: &[u8], first: usize, room: &mut [u8]) -> usize
-    requires { (length text.now ≤ length room.old) × (place (cut mark text.now) ≡ some first) }
+    requires { (length text.now ≤ length room.old) × (place (cut mark text.now) ≡ Some first) }
     ensures { (result ≤ length room.new) × (take result room.new ≡ remove mark text.now) }
 {
     let mut n = copy(&text[..first], &mut *room, 0);

@@ -1,6 +1,5 @@
 // The scan: from hot byte to hot byte up to the content's matching bracket; the keywords' first places are taken on the way.
-ghost use Rattle.std.specs.Prelude.{◌≡◌, ◌<◌};
-ghost use Rattle.std.proofs.Math.Option.{some};
+ghost use Rattle.std.specs.Prelude.{◌≡◌, ◌<◌, Some};
 ghost use Rattle.meaning.specs.Parts.{depth};
 ghost use Rattle.port.specs.Keys.{Scanned, Contained};
 
@@ -17,7 +16,7 @@ pub struct Scanning {
 // How many brackets stand open after the byte `b`, which doesn't close the outer one.
 fn deepened(d: usize, b: u8) -> usize
     requires { (d < 18446744073709551615) × ((b ≡ 62) → (d ≡ 0) → ⊥) }
-    ensures { depth d b ≡ some result }
+    ensures { depth d b ≡ Some result }
 {
     if b == b'<' {
         return d + 1;

@@ -1,6 +1,5 @@
 // Tensor views (01, module 5).
-ghost use Rattle.std.specs.Prelude.{◌+◌, ◌≤◌, ◌≡◌, length, take, drop};
-ghost use Rattle.std.proofs.Math.Option.{Option, none, some};
+ghost use Rattle.std.specs.Prelude.{◌+◌, ◌≤◌, ◌≡◌, length, take, drop, Option, None, Some};
 ghost use Rattle.meaning.specs.Parts.{each};
 ghost use Rattle.meaning.specs.Tile.{dimensions, stride_parts, tensor_parts, tensor, tensor_view};
 ghost use Rattle.lists.specs.Laid.{laid, list64};
@@ -41,13 +40,13 @@ pub(crate) fn parse_tensor(inner: &[u8], k: Places) -> Tensor
 // The strides' clause opens with the `n` bytes at `i`.
 fn around(inner: &[u8], i: usize, n: usize) -> Tensor
     requires { i + n ≤ length inner.now }
-    ensures { TensorIs result (tensor_parts (take i inner.now) (some (drop (i + n) inner.now))) }
+    ensures { TensorIs result (tensor_parts (take i inner.now) (Some (drop (i + n) inner.now))) }
 {
     with_strides(&inner[..i], &inner[i + n..])
 }
 
 fn with_strides(s: &[u8], strides: &[u8]) -> Tensor
-    ensures { TensorIs result (tensor_parts s.now (some strides.now)) }
+    ensures { TensorIs result (tensor_parts s.now (Some strides.now)) }
 {
     let f = lists::parse_front(s);
     let last = f.last;
@@ -65,7 +64,7 @@ fn with_strides(s: &[u8], strides: &[u8]) -> Tensor
 
 // Without the clause, one DYNAMIC per dimension.
 fn without_strides(s: &[u8]) -> Tensor
-    ensures { TensorIs result (tensor_parts s.now none) }
+    ensures { TensorIs result (tensor_parts s.now None) }
 {
     let f = lists::parse_front(s);
     let last = f.last;
@@ -92,7 +91,7 @@ fn parse_strides(s: &[u8]) -> List64
 }
 
 pub(crate) fn no_tensor() -> Tensor
-    ensures { TensorIs result none }
+    ensures { TensorIs result None }
 {
     let l = lists::none64();
     Tensor {

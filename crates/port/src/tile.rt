@@ -1,6 +1,5 @@
 // Tiles (01, module 4).
-ghost use Rattle.std.specs.Prelude.{◌≡◌, true, false};
-ghost use Rattle.std.proofs.Math.Option.{Option};
+ghost use Rattle.std.specs.Prelude.{◌≡◌, true, false, Option};
 ghost use Rattle.lexis.specs.Text.{bytes, trim, cut};
 ghost use Rattle.meaning.specs.Parts.{each, less_repeats};
 ghost use Rattle.meaning.specs.Tile.{dimensions, before_pointer, pointee, tile_of, tile_by, tile};

@@ -1,6 +1,5 @@
 // The three views (01, module 6).
-ghost use Rattle.std.specs.Prelude.{◌+◌, ◌≤◌, ◌<◌, ◌≡◌, false, length, drop};
-ghost use Rattle.std.proofs.Math.Option.{Option, none, some};
+ghost use Rattle.std.specs.Prelude.{◌+◌, ◌≤◌, ◌<◌, ◌≡◌, false, length, drop, Option, None, Some};
 ghost use Rattle.lexis.specs.Text.{bytes, cut};
 ghost use Rattle.meaning.specs.Found.{stands};
 ghost use Rattle.meaning.specs.Parts.{each, between, close};
@@ -161,7 +160,7 @@ fn parse_view(inner: &[u8], k: Places) -> View
 }
 
 fn no_view() -> View
-    ensures { ViewIs result none }
+    ensures { ViewIs result None }
 {
     View {
         found: false,
@@ -222,7 +221,7 @@ fn view_of(
     marked: bool,
 ) -> Reading
     requires { Sound (list64 v.tensor.shape) (list64 v.tensor.strides) (list32 v.tile) (list32 map) (list32 traversal) (list32 sparse) }
-    ensures { result ≡ answered marked (some (built kind v.tensor.element false (list64 v.tensor.shape) (list64 v.tensor.strides) (list32 v.tile) (list32 map) (list32 traversal) (list32 sparse) v.padding)) }
+    ensures { result ≡ answered marked (Some (built kind v.tensor.element false (list64 v.tensor.shape) (list64 v.tensor.strides) (list32 v.tile) (list32 map) (list32 traversal) (list32 sparse) v.padding)) }
 {
     let t = v.tensor;
     let element = t.element;

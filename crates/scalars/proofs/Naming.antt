@@ -1,9 +1,8 @@
 -- Laws of names: the entries of a table one at a time, and that what a text names stands among the names of its own length.
-use Rattle.std.specs.Prelude.{if◌then◌else◌}
+use Rattle.std.specs.Prelude.{if◌then◌else◌, Option, None, Some}
 use mathlib.Core.Path.{◌≡◌, refl, sym, ap, ◌∙◌}
 use mathlib.Core.Bool.{Bool, true, false, ◌&&◌, ◌||◌, false≢true}
 use mathlib.Core.List.{List, [], ◌∷◌, map}
-use mathlib.Core.Option.{Option, none, some}
 use Prim.Native.Nat.{ℕ, zero, suc, ◌+◌, ◌≤◌, ◌<◌}
 use native.Mathlib.Nat.{le_refl}
 use native.Mathlib.Omega.{arith}
@@ -68,11 +67,11 @@ of_length k (n ∷ ns) = if eqb (length (bytes n.spelling)) k then n ∷ of_leng
 
 -- the scalar at a place in a list of names
 abbrev pub at_place : List Name → ℕ → Option Scalar
-at_place [] k = none
-at_place (n ∷ ns) zero = some n.scalar
+at_place [] k = None
+at_place (n ∷ ns) zero = Some n.scalar
 at_place (n ∷ ns) (suc k) = at_place ns k
 
-past : (ns : List Name) (k : ℕ) → length ns ≤ k → at_place ns k ≡ none
+past : (ns : List Name) (k : ℕ) → length ns ≤ k → at_place ns k ≡ None
 past [] k h = refl
 past (n ∷ ns) zero h = let f : ⊥ = omega arith in absurd f
 past (n ∷ ns) (suc k) h = past ns k (omega arith)
@@ -82,7 +81,7 @@ found [] s = refl
 found (n ∷ ns) s = by (same (bytes n.spelling) s) (found ns s)
   where
     by : (b : Bool) → at_place ns (which s (spellings ns)) ≡ named_in ns s
-        → at_place (n ∷ ns) (if b then 0 else suc (which s (spellings ns))) ≡ if b then some n.scalar else named_in ns s
+        → at_place (n ∷ ns) (if b then 0 else suc (which s (spellings ns))) ≡ if b then Some n.scalar else named_in ns s
     by true e = refl
     by false e = e
 
@@ -97,7 +96,7 @@ own_length (n ∷ ns) s =
   where
     by : (b : Bool) → (b ≡ false → same (bytes n.spelling) s ≡ false)
         → named_in (of_length (length s) ns) s ≡ named_in ns s
-        → named_in (if b then n ∷ of_length (length s) ns else of_length (length s) ns) s ≡ if same (bytes n.spelling) s then some n.scalar else named_in ns s
+        → named_in (if b then n ∷ of_length (length s) ns else of_length (length s) ns) s ≡ if same (bytes n.spelling) s then Some n.scalar else named_in ns s
     by true f e = rw e
     by false f e = rw (f refl) e
 
@@ -121,12 +120,12 @@ module _ (k : ℕ) (s t : Text) (q : rows k t ≡ spellings (of_length k names))
       by true d = named m (eqb-true n m d)
       by false d = let f : n ≡ m → ⊥ = eqb-false n m d in r ∙ named (m + 1) (omega arith)
 
-  pub unnamed : length (of_length k names) ≤ n → none ≡ named_in names s
+  pub unnamed : length (of_length k names) ≤ n → None ≡ named_in names s
   unnamed h = sym (past (of_length k names) n h) ∙ place
 
 -- where the names' lengths pass a test that the text's does not
 none_such : (p : ℕ → Bool) (ns : List Name) (s : Text) → map (λ (n : Name). p (length (bytes n.spelling))) ns ≡ map (λ (n : Name). true) ns
-    → p (length s) ≡ false → none ≡ named_in ns s
+    → p (length s) ≡ false → None ≡ named_in ns s
 none_such p [] s e h = refl
 none_such p (n ∷ ns) s e h =
     let a : p (length (bytes n.spelling)) ≡ true = cc in
@@ -134,7 +133,7 @@ none_such p (n ∷ ns) s e h =
     rw (unlike (bytes n.spelling) s (λ k. false≢true (sym h ∙ ap p (sym k) ∙ a))) (none_such p ns s b h)
 
 -- a text of a length that no name has
-pub no_length : (s : Text) → (length s ≡ 2 → ⊥) → (length s ≡ 3 → ⊥) → (length s ≡ 4 → ⊥) → (length s ≡ 6 → ⊥) → (length s ≡ 8 → ⊥) → (length s ≡ 9 → ⊥) → none ≡ named_in names s
+pub no_length : (s : Text) → (length s ≡ 2 → ⊥) → (length s ≡ 3 → ⊥) → (length s ≡ 4 → ⊥) → (length s ≡ 6 → ⊥) → (length s ≡ 8 → ⊥) → (length s ≡ 9 → ⊥) → None ≡ named_in names s
 no_length s a b c d e f =
     none_such
     (λ (l : ℕ). eqb l 2 || eqb l 3 || eqb l 4 || eqb l 6 || eqb l 8 || eqb l 9)

@@ -3,7 +3,7 @@ use Prim.Native.Nat.{ℕ}
 use native.Mathlib.Omega.{arith}
 use mathlib.Core.Bool.{Bool, true, false, ◌&&◌, ◌||◌, false≢true}
 use mathlib.Core.List.{List, [], ◌∷◌, map}
-use mathlib.Core.Option.{Option, none}
+use Rattle.std.specs.Prelude.{Option, None}
 use mathlib.Core.Path.{◌≡◌, refl, sym, ap, ◌∙◌}
 use borrow.Author.Tests.{eqb-true, leb-true, lt-leb}
 use lib.Dec.{eqb, leb}
@@ -40,13 +40,13 @@ unlike_high (b ∷ a) (c ∷ s) p q = by (eqb b c) refl (unlike_high a s)
     by true e r = split (leb 128 b) (leb 128 c) (some_of (leb 128) a) (some_of (leb 128) s) (ap (leb 128) (eqb-true b c e)) p q r
 
 none_high : (ns : List Name) (s : Text) → map (λ (n : Name). some_of (leb 128) (bytes n.spelling)) ns ≡ map (λ (n : Name). false) ns
-    → some_of (leb 128) s ≡ true → named_in ns s ≡ none
+    → some_of (leb 128) s ≡ true → named_in ns s ≡ None
 none_high [] s e h = refl
 none_high (n ∷ ns) s e h =
     let a : some_of (leb 128) (bytes n.spelling) ≡ false = cc in
     let b : map (λ (n : Name). some_of (leb 128) (bytes n.spelling)) ns ≡ map (λ (n : Name). false) ns = cc in
     rw (unlike_high (bytes n.spelling) s a h) (none_high ns s b h)
 
-pub high_no_name : (s : Text) → some_of (leb 128) s ≡ true → scalar_name s ≡ none
+pub high_no_name : (s : Text) → some_of (leb 128) s ≡ true → scalar_name s ≡ None
 unfolding scalar_name
 high_no_name s h = none_high names (trim s) refl (trim_keeps (leb 128) white_low s ∙ h)

@@ -1,7 +1,6 @@
 -- Scalars (01, module 2): the 16 types, their 22 accepted spellings, widths and classes.
-use Rattle.std.specs.Prelude.{if◌then◌else◌, ℕ, ◌*◌, Bool, true, false, List, [], ◌∷◌}
+use Rattle.std.specs.Prelude.{if◌then◌else◌, ℕ, ◌*◌, Bool, true, false, List, [], ◌∷◌, Option, None, Some}
 use Prim.Native.String.{String}
-use Rattle.std.proofs.Math.Option.{Option, none, some}
 use Rattle.lexis.specs.Text.{Text, bytes, same, trim}
 use Rattle.scalars.specs.declared.scalar.Scalar.{Scalar}
 use Rattle.scalars.specs.declared.scalar.Scalar.TheVariants.{I1, I4, I8, I16, I32, I64, F16, BF16, F32, TF32, F64, F8E4M3FN, F8E5M2, F8E8M0FNU, F4E2M1FN, F8E5M3FNU}
@@ -38,8 +37,8 @@ names =
     "bool" is I1 ∷ []
 
 abbrev pub named_in : List Name → Text → Option Scalar
-named_in [] s = none
-named_in (n ∷ ns) s = if same (bytes n.spelling) s then some n.scalar else named_in ns s
+named_in [] s = None
+named_in (n ∷ ns) s = if same (bytes n.spelling) s then Some n.scalar else named_in ns s
 
 -- the scalar that a text names, white space around it aside
 unfoldable pub scalar_name : Text → Option Scalar
@@ -47,8 +46,8 @@ scalar_name s = named_in names (trim s)
 
 -- what the name reader's answer says
 abbrev pub said : Named → Option Scalar
-said (Is s) = some s
-said Unknown = none
+said (Is s) = Some s
+said Unknown = None
 
 -- ── widths and classes ──
 

@@ -1,10 +1,9 @@
 -- Laws of the answer: lists as rows, the record and the judgement of what was read, and the refusals in their order.
-use Rattle.std.specs.Prelude.{if◌then◌else◌}
+use Rattle.std.specs.Prelude.{if◌then◌else◌, None, Some}
 use Prim.Native.Nat.{ℕ, zero, suc, ◌+◌, ◌-◌, ◌≤◌, ◌<◌}
 use native.Mathlib.Omega.{arith}
 use mathlib.Core.Bool.{Bool, true, false, cond, ◌&&◌}
 use mathlib.Core.List.{List, [], ◌∷◌, ◌++◌, append_assoc, append-nil}
-use mathlib.Core.Option.{none, some}
 use mathlib.Core.Path.{◌≡◌, refl, sym, ap, subst, ◌∙◌}
 use borrow.Author.Tests.{le-leb, lt-leb, leb-true}
 use lib.Dec.{leb}
@@ -160,10 +159,10 @@ module _ (s : Text) {r : Reading} where
   unfolding answer
   ascii h e = rw (le-leb (length s) 1024 h) e
 
-  pub high_at : (i : ℕ) → length s ≤ 1024 → high_from 0 s ≡ some i → r ≡ refused 8 HighByte i → r ≡ answer 8 1024 s
+  pub high_at : (i : ℕ) → length s ≤ 1024 → high_from 0 s ≡ Some i → r ≡ refused 8 HighByte i → r ≡ answer 8 1024 s
   high_at i h k e = ascii h (e ∙ sym (ap (answer_ascii 8 s) k))
 
-  pub read_on : Bridge → length s ≤ 1024 → high_from 0 s ≡ none → r ≡ P.judged (mapped P.said (W.whole s)) → r ≡ answer 8 1024 s
+  pub read_on : Bridge → length s ≤ 1024 → high_from 0 s ≡ None → r ≡ P.judged (mapped P.said (W.whole s)) → r ≡ answer 8 1024 s
   read_on bridge h k e = ascii h (e ∙ sym (ap P.judged (bridge s)) ∙ judged_is (G.read s) ∙ sym (ap (answer_ascii 8 s) k))
 
   -- what is accepted is a strict form, and has no high byte
@@ -174,7 +173,7 @@ module _ (s : Text) {r : Reading} where
       five : ◌≡◌ {A = ℕ} 5 0 → ⊥
       five z = omega arith
 
-      low : (p : Answer Any) → G.read s ≡ p → number (judge 8 p).refusal ≡ 0 → high_from 0 s ≡ none
+      low : (p : Answer Any) → G.read s ≡ p → number (judge 8 p).refusal ≡ 0 → high_from 0 s ≡ None
       low (got a []) q z = strict_low s a (G.strict_sound s a q)
       low (got a (c ∷ x)) q z = absurd (five z)
       low (stuck x) q z = absurd (five z)

@@ -3,7 +3,7 @@ use Prim.Native.Nat.{ℕ, zero, suc, ◌+◌, ◌≤◌, ◌<◌}
 use native.Mathlib.Omega.{arith}
 use mathlib.Core.Bool.{Bool, true, false, cond, ◌&&◌, ◌||◌}
 use mathlib.Core.List.{List, [], ◌∷◌, ◌++◌}
-use mathlib.Core.Option.{Option, none}
+use Rattle.std.specs.Prelude.{Option, None}
 use mathlib.Core.Path.{◌≡◌, refl, subst, sym, ap, ◌∙◌}
 use lib.Dec.{T, eqb, ltb, eqb→eq, eqb_refl, T_not}
 use lib.ListN.{drop, length, get_or, drop_of_length-le}
@@ -70,11 +70,11 @@ abbrev pub Apart : ℕ → List ℕ → Type 0
 Apart b [] = Unit {0}
 Apart b (x ∷ xs) = (b ≡ x → ⊥) × Apart b xs
 
-begin_done : (bs : List ℕ) (es : List (Entry ℕ)) → T (begin bs es) → done es ≡ none
+begin_done : (bs : List ℕ) (es : List (Entry ℕ)) → T (begin bs es) → done es ≡ None
 begin_done bs [] h = refl
 begin_done bs (e ∷ es) h = by e.word (and_left (first bs e.word) (begin bs es) h) (begin_done bs es (and_right (first bs e.word) (begin bs es) h))
   where
-    by : (w : List ℕ) → T (first bs w) → done es ≡ none → or_done e.value (done es) w ≡ none
+    by : (w : List ℕ) → T (first bs w) → done es ≡ None → or_done e.value (done es) w ≡ None
     by [] f q = absurd f
     by (x ∷ w) f q = q
 
@@ -176,7 +176,7 @@ forced (x ∷ u) es = starts x es && forced u (advance x es)
 self : (x : ℕ) (u : List ℕ) → T (begin (x ∷ []) ((x ∷ u ↝ 0) ∷ []))
 self x u = rw (is_true (eqb x x) (eqb_refl x)) tt
 
-ends : (es : List (Entry ℕ)) → done es ≡ none → among es [] ≡ stuck []
+ends : (es : List (Entry ℕ)) → done es ≡ None → among es [] ≡ stuck []
 unfolding among
 ends es e = ap (λ (z : Option ℕ). settle z []) e
 

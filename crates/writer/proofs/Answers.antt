@@ -1,11 +1,10 @@
 -- The call's four answers, each from the test that leads to it; a normal record is small.
-use Rattle.std.specs.Prelude.{if◌then◌else◌}
+use Rattle.std.specs.Prelude.{if◌then◌else◌, Option, None, Some}
 use Prim.Native.Nat.{ℕ, ◌≤◌, ◌<◌}
 use native.Mathlib.Nat.{zero-add}
 use native.Mathlib.Omega.{arith}
 use mathlib.Core.Bool.{Bool, true, false}
 use mathlib.Core.List.{◌++◌}
-use mathlib.Core.Option.{Option, none, some}
 use mathlib.Core.Path.{◌≡◌, sym, ap, ◌∙◌}
 use borrow.Author.Tests.{le-leb, lt-leb}
 use lib.ListN.{length, take, drop}
@@ -68,7 +67,7 @@ abbrev normal_or : Bool → Record → Text → Outcome
 normal_or b r room = if b then texted (written r) room else refused NotNormal room
 
 abbrev shown_or : Bool → Record → Text → Outcome
-shown_or b r room = texted (if b then some (text r) else none) room
+shown_or b r room = texted (if b then Some (text r) else None) room
 
 abbrev fits_or : Bool → Text → Text → Outcome
 fits_or b t room = if b then outcome (record { refusal = Accepted; len = length t }) (t ++ drop (length t) room) else refused RoomShort room

@@ -2,7 +2,7 @@
 use Prim.Native.Nat.{ℕ, ◌+◌, ◌*◌, ◌≤◌}
 use native.Mathlib.Omega.{arith}
 use mathlib.Core.Bool.{Bool, true, false}
-use mathlib.Core.Option.{Option, none, some}
+use Rattle.std.specs.Prelude.{Option, None, Some}
 use mathlib.Core.Path.{◌≡◌, sym, subst}
 use borrow.Author.Tests.{le-leb}
 use lib.Dec.{leb}
@@ -32,8 +32,8 @@ module _ (cap size : ℕ) (r : Record) where
     where
       by : (o : Option Text) → When (AtMost (78 * cap + 149)) o → When (λ t. Strict t (own r)) o → When (λ t. Judged cap t (answered r)) o →
           When (λ t. Strictly cap size t (answered r)) o
-      by none l s j = tt
-      by (some t) l s j =
+      by None l s j = tt
+      by (Some t) l s j =
           let short : leb (length t) size ≡ true = le-leb (length t) size (omega arith) in
           let ascii : Limited true t = subst (λ (o : Option ℕ). ReadAscii cap t o (answered r)) (sym (strict_low t (own r) s)) j in
           subst (λ (b : Bool). Limited b t) (sym short) ascii

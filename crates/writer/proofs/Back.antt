@@ -1,11 +1,10 @@
 -- A written text says its record and no other: the form's meaning is the record's own, and laid in arrays that is the record
 -- again. So reading a written text strictly answers the record.
-use Rattle.std.specs.Prelude.{if◌then◌else◌}
+use Rattle.std.specs.Prelude.{if◌then◌else◌, Option, None, Some}
 use Prim.Native.Nat.{ℕ, zero, suc, ◌-◌, ◌^◌}
 use native.Mathlib.Omega.{arith}
 use mathlib.Core.Bool.{Bool, true, false, ◌&&◌}
 use mathlib.Core.List.{List, [], ◌∷◌, map}
-use mathlib.Core.Option.{Option, none, some}
 use mathlib.Core.Path.{◌≡◌, refl, sym, ap, subst, ◌∙◌}
 use borrow.Author.Tests.{eqb-true}
 use lib.Dec.{T, eqb, leb, le→leb}
@@ -124,8 +123,8 @@ record ViewSays (p : Padding) (ts : List ℤ) (Says : Tensor → Type 0) (v : Vi
 
 view_says : (p : Padding) (ts : List ℤ) (Says : Tensor → Type 0) (o : Option Tensor) → When Says o → When (ViewSays p ts Says) (view_of p ts o)
 view_says p [] Says o h = tt
-view_says p (t ∷ ts) Says none h = tt
-view_says p (t ∷ ts) Says (some v) h = record { tile = refl; padding = padding_back p; tensor = h }
+view_says p (t ∷ ts) Says None h = tt
+view_says p (t ∷ ts) Says (Some v) h = record { tile = refl; padding = padding_back p; tensor = h }
 
 -- ── what its form says ──
 
@@ -152,7 +151,7 @@ module _ (cap : ℕ) (r : Record) where
       any k (s.tensor.name i) (sym p i) (s.tensor.marked i) (s.tensor.shape i) (s.tensor.strides i) (s.tile i) (m i) (t i) (z i) (s.padding i)
 
   tile_is : (o : Opened cap K.Tile r) (p m : Bool) → r.pointer ≡ p → r.attribute ≡ m →
-      When (Says K.Tile) (if p then some (S.tile true (map dimension_of (shape_in r)) (S.pointer (record { front = true; name = first r.element; marked = m })))
+      When (Says K.Tile) (if p then Some (S.tile true (map dimension_of (shape_in r)) (S.pointer (record { front = true; name = first r.element; marked = m })))
       else W.unless m (S.tile true (map dimension_of (shape_in r)) (S.plain (first r.element))))
   tile_is o true m e f = λ i.
       any K.Tile (scalar_back r.element i) (sym e i) (sym f i) (dims_back (shape_in r) i) (sym o.strides.idle i) (sym o.tile.idle i)
@@ -265,8 +264,8 @@ unfolding written
 strict cap r g n = by (form r) (form_fine r g) (form_says cap r n)
   where
     by : (o : Option Form) → When Fine o → When (λ f. mean f ≡ own r) o → When (λ t. Strict t (own r)) (each spell o)
-    by none k h = tt
-    by (some f) k h = record { form = f; fine = k; text = refl; says = sym h }
+    by None k h = tt
+    by (Some f) k h = record { form = f; fine = k; text = refl; says = sym h }
 
 -- the strict reader's answer with this record
 abbrev pub answered : Record → Reading
@@ -278,5 +277,5 @@ unfolding taken
 back cap r a g n = by (written r) (strict cap r g n)
   where
     by : (o : Option Text) → When (λ t. Strict t (own r)) o → When (λ t. Judged cap t (answered r)) o
-    by none h = tt
-    by (some t) h = subst (λ (x : Record). Judged cap t (answered x)) (flat_own cap r a n) (accepted (own r) h (own_fits cap r a n))
+    by None h = tt
+    by (Some t) h = subst (λ (x : Record). Judged cap t (answered x)) (flat_own cap r a n) (accepted (own r) h (own_fits cap r a n))

@@ -1,10 +1,9 @@
 -- A written text of a normal record at capacity cap has at most 78 * cap + 149 bytes, by the bounds of its parts; at 8 and at
 -- 16 a record attains it, which the checker computes.
-use Rattle.std.specs.Prelude.{if◌then◌else◌}
+use Rattle.std.specs.Prelude.{if◌then◌else◌, Option, None, Some}
 use Prim.Native.Nat.{ℕ, ◌+◌, ◌*◌, ◌≤◌}
 use mathlib.Core.Bool.{Bool, true, false}
 use mathlib.Core.List.{[], ◌∷◌, map}
-use mathlib.Core.Option.{Option, none, some}
 use mathlib.Core.Path.{◌≡◌, refl, sym, subst}
 use lib.Dec.{lit≤}
 use lib.IntN.{pos, negsuc}
@@ -28,7 +27,7 @@ AtMost n t = length t ≤ n
 pub longest : (cap : ℕ) (r : Record) → 1 ≤ cap → Arrays cap r → Ranged r → normal cap r ≡ true → When (AtMost (78 * cap + 149)) (written r)
 longest cap r h a g n = by (shown r) (same r (whole cap r h a))
   where
-    by : (b : Bool) → written r ≡ (if b then some (text r) else none) → When (AtMost (78 * cap + 149)) (written r)
+    by : (b : Bool) → written r ≡ (if b then Some (text r) else None) → When (AtMost (78 * cap + 149)) (written r)
     by true e = subst (When (AtMost (78 * cap + 149))) (sym e) (text_short cap h r (small cap r n a) g)
     by false e = subst (When (AtMost (78 * cap + 149))) (sym e) tt
 
@@ -57,8 +56,8 @@ full cap = record {
 }
 
 abbrev size : Option Text → ℕ
-size none = 0
-size (some t) = length t
+size None = 0
+size (Some t) = length t
 
 pub attained : map (λ (cap : ℕ). size (written (full cap))) (8 ∷ 16 ∷ []) ≡ 773 ∷ 1397 ∷ []
 unfolding full written

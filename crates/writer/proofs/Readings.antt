@@ -1,6 +1,6 @@
 -- The record of an ordinary reading has a text, unless its attribute stands on a scalar, a tile of scalars or a token: what a
 -- form finds has no empty list where the text of its kind needs an entry.
-use Rattle.std.specs.Prelude.{if◌then◌else◌}
+use Rattle.std.specs.Prelude.{if◌then◌else◌, Option, None, Some}
 use Prim.Native.Nat.{ℕ, zero, suc, ◌≤◌, ◌<◌}
 use Prim.Native.Char.{code}
 use native.Mathlib.Nat.{zero-lt-suc}
@@ -8,7 +8,6 @@ use native.Mathlib.Omega.{arith}
 use mathlib.Core.Bool.{Bool, true, false, ◌&&◌, ◌||◌, not}
 use mathlib.Core.List as L
 use mathlib.Core.List.{List, [], ◌∷◌}
-use mathlib.Core.Option.{Option, none, some}
 use mathlib.Core.Path.{◌≡◌, refl, ap, ◌∙◌}
 use lib.Dec.{T, eqb, eqb-suc-zero}
 use lib.IntN.{ℤ, pos}
@@ -130,11 +129,11 @@ parts_filled s = split_filled (code ",") (less_trailing (eqb (code "]")) (less_l
 
 -- with the clause an entry stands; without it as many as dimensions
 tensor_of_rich : (dims : List Text) (o : Option Text) (e : Scalar) → TensorRich (M.tensor_of dims o e)
-tensor_of_rich [] none e = tt
-tensor_of_rich (d ∷ ds) none e =
+tensor_of_rich [] None e = tt
+tensor_of_rich (d ∷ ds) None e =
     let n = length (replicate (suc (length ds)) M.DYNAMIC) in
     or_left (some_in n) (eqb (length (values (M.dimensions (d ∷ ds)))) 0) (counts n (zero-lt-suc (length (replicate (length ds) M.DYNAMIC))))
-tensor_of_rich dims (some s) e =
+tensor_of_rich dims (Some s) e =
     let ps = M.stride_parts s in
     let n = length (L.map value (L.map M.dimension ps)) in
     or_left (some_in n) (eqb (length (values (M.dimensions dims))) 0)
@@ -150,13 +149,13 @@ unfolding M.tensor
 tensor_rich s = by (cut (bytes ", strides=") s) (cut (bytes ",strides=") s)
   where
     by : (c d : Cut) → When TensorRich (M.tensor_by s c d)
-    by (at u t) d = tensor_parts_rich u (some t)
-    by nowhere (at u t) = tensor_parts_rich u (some t)
-    by nowhere nowhere = tensor_parts_rich s none
+    by (at u t) d = tensor_parts_rich u (Some t)
+    by nowhere (at u t) = tensor_parts_rich u (Some t)
+    by nowhere nowhere = tensor_parts_rich s None
 
 inner_rich : (o : Option Text) → When TensorRich (W.inner_by o)
-inner_rich none = tt
-inner_rich (some t) = tensor_rich (W.enclosed (close 0 t))
+inner_rich None = tt
+inner_rich (Some t) = tensor_rich (W.enclosed (close 0 t))
 
 tile_filled : (s : Text) → 0 < length (W.tile_entries s)
 unfolding W.tile_entries
@@ -267,10 +266,10 @@ unfolding W.partition_view
 partition_reads s = by (W.list_after (bytes "dim_map=[") s) (W.view s) (view_rich s)
   where
     by : (l : Listed) (o : Option View) → When ViewRich o → When Rich (W.partition_from l o)
-    by l none h = tt
-    by absent (some v) h = partition_rich v h (W.own_map v) (own_map_full v h)
-    by unclosed (some v) h = tt
-    by (listed t) (some v) h = partition_rich v h (W.entries t) (entries_full t)
+    by l None h = tt
+    by absent (Some v) h = partition_rich v h (W.own_map v) (own_map_full v h)
+    by unclosed (Some v) h = tt
+    by (listed t) (Some v) h = partition_rich v h (W.entries t) (entries_full t)
 
 gather_reads : (s : Text) → When Rich (W.gather_scatter_view s)
 unfolding W.gather_scatter_view
@@ -307,7 +306,7 @@ rich = record {
 
 -- a record has a text exactly if no attribute is stray
 abbrev pub Readable : Record → Type 0
-Readable r = written r ≡ (if not (stray r.kind r.pointer && r.attribute) then some (text r) else none)
+Readable r = written r ≡ (if not (stray r.kind r.pointer && r.attribute) then Some (text r) else None)
 
 padded_length : (cap : ℕ) (zs : List ℤ) → length (padded cap zs) ≡ cap
 padded_length zero zs = refl
@@ -330,7 +329,7 @@ shown_flat cap t h = shown_is t.kind (flat cap t) (h cap)
 
 rich_readable : (cap : ℕ) (t : Found) → 1 ≤ cap → Rich t → Readable (flat cap t)
 rich_readable cap t h k =
-    Same.same (flat cap t) (flat_whole cap t h) ∙ ap (λ (b : Bool). if b then some (text (flat cap t)) else none) (shown_flat cap t k)
+    Same.same (flat cap t) (flat_whole cap t h) ∙ ap (λ (b : Bool). if b then Some (text (flat cap t)) else None) (shown_flat cap t k)
 
 module _ (cap : ℕ) (one : 1 ≤ cap) where
   refused_readable : (why : Refusal) (place : ℕ) → Readable (O.refused cap why place).value

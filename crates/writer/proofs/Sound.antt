@@ -1,10 +1,9 @@
 -- Where a record has a form, the form is well formed, by the ranges of its numbers. So what is written is strict (`Back`).
-use Rattle.std.specs.Prelude.{if◌then◌else◌}
+use Rattle.std.specs.Prelude.{if◌then◌else◌, Option, None, Some}
 use Prim.Native.Nat.{ℕ, zero, suc, ◌-◌, ◌^◌, ◌<◌}
 use native.Mathlib.Omega.{arith}
 use mathlib.Core.Bool.{Bool, true, false, ◌&&◌}
 use mathlib.Core.List.{List, [], ◌∷◌, map}
-use mathlib.Core.Option.{Option, none, some}
 use mathlib.Core.Path.{◌≡◌, refl, ap}
 use borrow.Author.Tests.{eqb-false}
 use lib.Dec.{T, lt→ltb, eqb}
@@ -89,11 +88,11 @@ tensor_fine e m (d ∷ ds) (z ∷ zs) p q =
 
 view_fine : (p : Padding) (ts : List ℤ) (o : Option Tensor) → T (each_of in32 ts) → When TensorFine o → When ViewFine (view_of p ts o)
 view_fine p [] o h k = tt
-view_fine p (t ∷ ts) none h k = tt
-view_fine p (t ∷ ts) (some v) h k = and_in (each_of in32 (t ∷ ts)) (tensor_ok v.shape v.strides) h k
+view_fine p (t ∷ ts) None h k = tt
+view_fine p (t ∷ ts) (Some v) h k = and_in (each_of in32 (t ∷ ts)) (tensor_ok v.shape v.strides) h k
 
 tile_fine : (p m : Bool) (e : Scalar) (ds : List ℤ) → T (each_of in64 (map dimension_of ds)) →
-    When Fine (if p then some (S.tile true (map dimension_of ds) (S.pointer (record { front = true; name = first e; marked = m })))
+    When Fine (if p then Some (S.tile true (map dimension_of ds) (S.pointer (record { front = true; name = first e; marked = m })))
     else W.unless m (S.tile true (map dimension_of ds) (S.plain (first e))))
 tile_fine true m e ds h = h
 tile_fine false m e ds h = when_unless Fine m (S.tile true (map dimension_of ds) (S.plain (first e))) (λ k. h)

@@ -1,18 +1,11 @@
--- `run` meets its contract: zeros, then digits have been passed up to i, and wrote n.
+-- `run` meets its contract: digits have been passed up to the rest, and wrote n.
+use Rattle.std.proofs.Common.{◌≡◌, ◌≤◌, ◌<◌, ◌-◌, ◌^◌, length, drop, eqb}
 use Rattle.numerals.proofs.Walking.{Running}
-use lib.Dec.{eqb}
-use lib.ListN.{length}
-use Prim.Native.Nat.{◌-◌, ◌^◌, ◌<◌}
 use Rattle.numerals.proofs.part.run.Given as goal
 
-abbrev pub invariant-loop-i : goal.invariant-loop-i
-invariant-loop-i l = Running (eqb l.x) l.text l.from l.i 0
+abbrev pub invariant-loop-b : goal.invariant-loop-b
+invariant-loop-b l = let i = length l.text - length l.rest in
+    Running (eqb l.x) l.text l.from i l.n × (l.n < 2 ^ 63) × (l.rest ≡ drop i l.text) × (length l.rest ≤ length l.text)
 
-abbrev pub decreases-loop-i : goal.decreases-loop-i
-decreases-loop-i l = length l.text - l.i
-
-abbrev pub invariant-loop-i-2 : goal.invariant-loop-i-2
-invariant-loop-i-2 l = Running (eqb l.x) l.text l.from l.i l.n × (l.n < 2 ^ 63)
-
-abbrev pub decreases-loop-i-2 : goal.decreases-loop-i-2
-decreases-loop-i-2 l = length l.text - l.i
+abbrev pub decreases-loop-b : goal.decreases-loop-b
+decreases-loop-b l = length l.rest

@@ -1,6 +1,6 @@
 -- `opens` meets its contract: the longer prefix that was sighted decides, then the shorter, then what stands behind the tile.
 use native.Mathlib.Omega.{arith}
-use mathlib.Core.Option.{some}
+use Rattle.std.specs.Prelude.{Some}
 use mathlib.Core.Path.{sym, ap, ◌∙◌}
 use borrow.Author.Rules.{rules}
 use lib.ListN.{drop}
@@ -24,7 +24,7 @@ overflow_add-result-in-At-2 c = let a = c.args in omega (arith, L.fits_behind (b
 pub returns-in-At : goal.returns-in-At
 returns-in-At c = let a = c.args in (
   L.opened_plain c.requires.0 (drop a.behind a.inner.now) (search rules) (search rules) _ (sym c.plain_from.ensures ∙ ap spot c.in-At.is)
-      ∙ ap some (L.both a.inner.now a.behind _),
+      ∙ ap Some (L.both a.inner.now a.behind _),
   L.fits_behind (bytes "tensor_view<") a.inner.now a.behind _ c.requires.3 (sym c.plain_from.ensures ∙ ap spot c.in-At.is),
 )
 

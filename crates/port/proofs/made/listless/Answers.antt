@@ -1,5 +1,5 @@
 -- `listless` meets its contract: its lists are none.
-use mathlib.Core.Option.{some}
+use Rattle.std.specs.Prelude.{Some}
 use mathlib.Core.Path.{ap, ◌∙◌}
 use Rattle.meaning.specs.Found.{unused}
 use Rattle.port.specs.Carried.{Carried, answered}
@@ -12,4 +12,4 @@ simple-requires c = let n = L.sound_list unused c.none64-l.ensures in (n, n)
 
 pub returns : goal.returns
 returns c = let n = c.none64-l.ensures in let a = c.args in
-    c.simple.ensures ∙ ap (λ (x : Carried). answered a.marked (some x)) (B.plain_is a.kind a.element n n)
+    c.simple.ensures ∙ ap (λ (x : Carried). answered a.marked (Some x)) (B.plain_is a.kind a.element n n)

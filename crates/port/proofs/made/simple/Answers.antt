@@ -1,5 +1,5 @@
 -- `simple` meets its contract: the lists of a view are none.
-use mathlib.Core.Option.{some}
+use Rattle.std.specs.Prelude.{Some}
 use mathlib.Core.Path.{ap, ◌∙◌}
 use Rattle.meaning.specs.Found.{unused}
 use Rattle.meaning.specs.declared.Padding.TheVariants.{Absent}
@@ -14,4 +14,4 @@ made-requires c = let n = L.sound_list unused c.none32-l.ensures in record { sha
 
 pub returns : goal.returns
 returns c = let a = c.args in
-    c.made.ensures ∙ ap (λ (l : Laid). answered a.marked (some (built a.kind a.element a.pointer (list64 a.shape) (list64 a.strides) l l l l Absent))) c.none32-l.ensures
+    c.made.ensures ∙ ap (λ (l : Laid). answered a.marked (Some (built a.kind a.element a.pointer (list64 a.shape) (list64 a.strides) l l l l Absent))) c.none32-l.ensures

@@ -1,7 +1,7 @@
 -- `parse_unmarked` meets its contract: the token, then the forms, `!cuda_tile.` taken off.
 use Prim.Native.Nat.{ℕ}
 use mathlib.Core.List.{List}
-use mathlib.Core.Option.{Option}
+use Rattle.std.specs.Prelude.{Option}
 use mathlib.Core.Path.{sym, ap, ◌∙◌}
 use Rattle.meaning.specs.Found.{Found}
 use Rattle.meaning.specs.Parts.{each}
