@@ -1,11 +1,6 @@
 -- Each public function's contract leaves one answer: two answers that meet the generated reading of it, for the same arguments, are the same.
-use mathlib.Core.Path.{◌≡◌, refl, sym, ap, ◌∙◌}
-use Prim.Native.Nat.{ℕ}
-use native.Mathlib.Omega.{arith}
+use mathlib.Core.Path.{sym, ◌∙◌}
 use Rattle.lexis.proofs.Unique.{One}
-use Rattle.scalars.specs.Names.{said}
-use Rattle.scalars.specs.declared.scalar.Named.{Named}
-use Rattle.scalars.specs.declared.scalar.Named.TheVariants.{Is, Unknown}
 use Rattle.scalars.proofs.scalar.Scalar.byte_width.Reads as byte_width
 use Rattle.scalars.proofs.scalar.Scalar.is_integer.Reads as is-integer
 use Rattle.scalars.proofs.scalar.Scalar.is_float.Reads as is-float
@@ -24,11 +19,5 @@ is_float_one κs a x y s t p q = p ∙ sym q
 pub bits_one : One bits.Post
 bits_one κs a x y s t p q = p ∙ sym q
 
-said_one : (f g : Named) → said f ≡ said g → f ≡ g
-said_one (Is n) (Is m) e = let k : n ≡ m = cc in ap Is k
-said_one (Is n) Unknown e = let z : ◌≡◌ {A = ℕ} 0 1 = cc in let f : ⊥ = omega arith in absurd f
-said_one Unknown (Is m) e = let z : ◌≡◌ {A = ℕ} 0 1 = cc in let f : ⊥ = omega arith in absurd f
-said_one Unknown Unknown e = refl
-
 pub parse_scalar_one : One parse-scalar.Post
-parse_scalar_one κs a x y s t p q = said_one x y (p ∙ sym q)
+parse_scalar_one κs a x y s t p q = p ∙ sym q

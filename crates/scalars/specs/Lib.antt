@@ -1,3 +1,2 @@
--- What the contracts of scalars say: names, widths, classes; and, of private helpers, tables of names.
+-- What the contracts of scalars say: names, widths, classes.
 pub mod Names
-pub mod Rows

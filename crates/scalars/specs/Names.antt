@@ -4,8 +4,6 @@ use Prim.Native.String.{String}
 use Rattle.lexis.specs.Text.{Text, bytes, same, trim}
 use Rattle.scalars.specs.declared.scalar.Scalar.{Scalar}
 use Rattle.scalars.specs.declared.scalar.Scalar.TheVariants.{I1, I4, I8, I16, I32, I64, F16, BF16, F32, TF32, F64, F8E4M3FN, F8E5M2, F8E8M0FNU, F4E2M1FN, F8E5M3FNU}
-use Rattle.scalars.specs.declared.scalar.Named.{Named}
-use Rattle.scalars.specs.declared.scalar.Named.TheVariants.{Is, Unknown}
 
 pub record Name : Type 0 where
   pub spelling : String
@@ -43,11 +41,6 @@ named_in (n ∷ ns) s = if same (bytes n.spelling) s then Some n.scalar else nam
 -- the scalar that a text names, white space around it aside
 unfoldable pub scalar_name : Text → Option Scalar
 scalar_name s = named_in names (trim s)
-
--- what the name reader's answer says
-abbrev pub said : Named → Option Scalar
-said (Is s) = Some s
-said Unknown = None
 
 -- ── widths and classes ──
 

@@ -3,4 +3,4 @@
 
 mod scalar;
 
-pub use scalar::{Named, Scalar, parse_scalar};
+pub use scalar::{Scalar, parse_scalar};

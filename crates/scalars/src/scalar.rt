@@ -1,12 +1,11 @@
 // Scalar types and their names (01, module 2).
-ghost use Rattle.std.specs.Prelude.{◌≡◌, not, ◌<◌, length};
-ghost use Rattle.scalars.specs.Names.{scalar_name, named_in, names, said, byte_width, integer, bit_width};
-ghost use Rattle.scalars.specs.Rows.{rows, which};
+ghost use Rattle.std.specs.Prelude.{◌≡◌, not};
+ghost use Rattle.scalars.specs.Names.{scalar_name, byte_width, integer, bit_width};
 
-use lexis::{begins, trim};
+use lexis::{same, trim};
 
 // Scalar (element) types: integers and floats.
-#[derive(Clone, Copy)]
+#[derive(Clone, Copy, PartialEq, Eq)]
 pub enum Scalar {
     I1,
     I4,
@@ -24,13 +23,6 @@ pub enum Scalar {
     F8E8M0FNU,
     F4E2M1FN,
     F8E5M3FNU,
-}
-
-// What a text names.
-#[derive(Clone, Copy)]
-pub enum Named {
-    Is(Scalar),
-    Unknown,
 }
 
 impl Scalar {
@@ -57,19 +49,10 @@ impl Scalar {
     pub fn is_integer(self) -> bool
         ensures { result ≡ integer self }
     {
-        match self {
-            Scalar::I1 | Scalar::I4 | Scalar::I8 | Scalar::I16 | Scalar::I32 | Scalar::I64 => true,
-            Scalar::F16
-            | Scalar::BF16
-            | Scalar::F32
-            | Scalar::TF32
-            | Scalar::F64
-            | Scalar::F8E4M3FN
-            | Scalar::F8E5M2
-            | Scalar::F8E8M0FNU
-            | Scalar::F4E2M1FN
-            | Scalar::F8E5M3FNU => false,
-        }
+        matches!(
+            self,
+            Scalar::I1 | Scalar::I4 | Scalar::I8 | Scalar::I16 | Scalar::I32 | Scalar::I64
+        )
     }
 
     // True if this is a float scalar type.
@@ -98,118 +81,41 @@ impl Scalar {
     }
 }
 
-// The place of `name` among the entries of `table`, which stand side by side and are as long as it, or how many they are.
-fn which(name: &[u8], table: &[u8]) -> usize
-    requires { 0 < length name.now }
-    ensures { result ≡ which name.now (rows (length name.now) table.now) }
-{
-    let mut n = 0;
-    let mut at = 0;
-    while at < table.len() {
-        if begins(&table[at..], name) {
-            return n;
-        }
-        n += 1;
-        at += name.len();
-    }
-    n
-}
+// The accepted spellings, in the order of the Rust: the five narrow floats in two each, and `bool` for I1.
+const NAMES: [(&[u8], Scalar); 22] = [
+    (b"i1", Scalar::I1),
+    (b"i4", Scalar::I4),
+    (b"i8", Scalar::I8),
+    (b"i16", Scalar::I16),
+    (b"i32", Scalar::I32),
+    (b"i64", Scalar::I64),
+    (b"f16", Scalar::F16),
+    (b"bf16", Scalar::BF16),
+    (b"f32", Scalar::F32),
+    (b"tf32", Scalar::TF32),
+    (b"f64", Scalar::F64),
+    (b"f8E4M3FN", Scalar::F8E4M3FN),
+    (b"f8e4m3fn", Scalar::F8E4M3FN),
+    (b"f8E5M2", Scalar::F8E5M2),
+    (b"f8e5m2", Scalar::F8E5M2),
+    (b"f8E8M0FNU", Scalar::F8E8M0FNU),
+    (b"f8e8m0fnu", Scalar::F8E8M0FNU),
+    (b"f4E2M1FN", Scalar::F4E2M1FN),
+    (b"f4e2m1fn", Scalar::F4E2M1FN),
+    (b"f8E5M3FNU", Scalar::F8E5M3FNU),
+    (b"f8e5m3fnu", Scalar::F8E5M3FNU),
+    (b"bool", Scalar::I1),
+];
 
-// What a name of two bytes says.
-fn of_two(name: &[u8]) -> Named
-    requires { length name.now ≡ 2 }
-    ensures { said result ≡ named_in names name.now }
-{
-    let s = match which(name, b"i1i4i8") {
-        0 => Scalar::I1,
-        1 => Scalar::I4,
-        2 => Scalar::I8,
-        _ => return Named::Unknown,
-    };
-    Named::Is(s)
-}
-
-// Of three bytes.
-fn of_three(name: &[u8]) -> Named
-    requires { length name.now ≡ 3 }
-    ensures { said result ≡ named_in names name.now }
-{
-    let s = match which(name, b"i16i32i64f16f32f64") {
-        0 => Scalar::I16,
-        1 => Scalar::I32,
-        2 => Scalar::I64,
-        3 => Scalar::F16,
-        4 => Scalar::F32,
-        5 => Scalar::F64,
-        _ => return Named::Unknown,
-    };
-    Named::Is(s)
-}
-
-// Of four bytes.
-fn of_four(name: &[u8]) -> Named
-    requires { length name.now ≡ 4 }
-    ensures { said result ≡ named_in names name.now }
-{
-    let s = match which(name, b"bf16tf32bool") {
-        0 => Scalar::BF16,
-        1 => Scalar::TF32,
-        2 => Scalar::I1,
-        _ => return Named::Unknown,
-    };
-    Named::Is(s)
-}
-
-// Of six bytes.
-fn of_six(name: &[u8]) -> Named
-    requires { length name.now ≡ 6 }
-    ensures { said result ≡ named_in names name.now }
-{
-    let s = match which(name, b"f8E5M2f8e5m2") {
-        0 | 1 => Scalar::F8E5M2,
-        _ => return Named::Unknown,
-    };
-    Named::Is(s)
-}
-
-// Of eight bytes.
-fn of_eight(name: &[u8]) -> Named
-    requires { length name.now ≡ 8 }
-    ensures { said result ≡ named_in names name.now }
-{
-    let s = match which(name, b"f8E4M3FNf8e4m3fnf4E2M1FNf4e2m1fn") {
-        0 | 1 => Scalar::F8E4M3FN,
-        2 | 3 => Scalar::F4E2M1FN,
-        _ => return Named::Unknown,
-    };
-    Named::Is(s)
-}
-
-// Of nine bytes.
-fn of_nine(name: &[u8]) -> Named
-    requires { length name.now ≡ 9 }
-    ensures { said result ≡ named_in names name.now }
-{
-    let s = match which(name, b"f8E8M0FNUf8e8m0fnuf8E5M3FNUf8e5m3fnu") {
-        0 | 1 => Scalar::F8E8M0FNU,
-        2 | 3 => Scalar::F8E5M3FNU,
-        _ => return Named::Unknown,
-    };
-    Named::Is(s)
-}
-
-// The scalar that a text names, white space around it aside: 22 spellings, the five narrow floats in two each, and `bool` for I1.
-pub fn parse_scalar(text: &[u8]) -> Named
-    ensures { said result ≡ scalar_name text.now }
+// The scalar that a text names, white space around it aside.
+pub fn parse_scalar(text: &[u8]) -> Option<Scalar>
+    ensures { result ≡ scalar_name text.now }
 {
     let name = trim(text);
-    match name.len() {
-        2 => of_two(name),
-        3 => of_three(name),
-        4 => of_four(name),
-        6 => of_six(name),
-        8 => of_eight(name),
-        9 => of_nine(name),
-        _ => Named::Unknown,
+    for (spelling, scalar) in &NAMES {
+        if same(spelling, name) {
+            return Some(*scalar);
+        }
     }
+    None
 }

@@ -1,28 +1,20 @@
--- `parse_scalar` meets its contract: what the trimmed text names stands among the names of its own length.
-use Rattle.scalars.proofs.Naming as L
-use mathlib.Core.Path.{◌∙◌}
-use native.Mathlib.Omega.{arith}
+-- `parse_scalar` meets its contract: the entry at the index decides, or is passed; behind the last there is no name.
+use Rattle.std.proofs.Common.{arith, sym, ap, ◌∙◌, ◌≡◌, drop, ℕ}
+use Rattle.scalars.proofs.Listed as L
+use Rattle.scalars.specs.Names.{names, named_in, scalar_name}
+use Rattle.scalars.proofs.scalar.parse_scalar.Invariants.{spelt, meant, blank}
 use Rattle.scalars.proofs.scalar.parse_scalar.Goals as goal
 
-pub returns-in-2 : goal.returns-in-2
-returns-in-2 c = c.of_two.ensures ∙ L.trimmed _ _ c.trim-name.ensures
+pub returns-then-same : goal.returns-then-same
+unfolding scalar_name
+returns-then-same c = let l = c.loop-spelling in
+    sym (ap (named_in names) (sym c.trim-name.ensures) ∙ l.invariant.0 ∙ L.hit spelt meant c.trim-name.result.now blank l.invariant.1 c.loop-spelling-test.true (sym c.same.ensures ∙ c.if-same.true))
 
-pub returns-in-3 : goal.returns-in-3
-returns-in-3 c = c.of_three.ensures ∙ L.trimmed _ _ c.trim-name.ensures
+pub loop-spelling-preserved : goal.loop-spelling-preserved
+loop-spelling-preserved c = let l = c.loop-spelling in
+    (l.invariant.0 ∙ L.miss spelt meant c.trim-name.result.now blank l.invariant.1 c.loop-spelling-test.true (sym c.same.ensures ∙ c.if-same.false), l.invariant.1)
 
-pub returns-in-4 : goal.returns-in-4
-returns-in-4 c = c.of_four.ensures ∙ L.trimmed _ _ c.trim-name.ensures
-
-pub returns-in-6 : goal.returns-in-6
-returns-in-6 c = c.of_six.ensures ∙ L.trimmed _ _ c.trim-name.ensures
-
-pub returns-in-8 : goal.returns-in-8
-returns-in-8 c = c.of_eight.ensures ∙ L.trimmed _ _ c.trim-name.ensures
-
-pub returns-in-9 : goal.returns-in-9
-returns-in-9 c = c.of_nine.ensures ∙ L.trimmed _ _ c.trim-name.ensures
-
-pub returns-in_default : goal.returns-in_default
-returns-in_default c =
-    L.no_length c.trim-name.result.now (λ e. omega arith) (λ e. omega arith) (λ e. omega arith) (λ e. omega arith) (λ e. omega arith) (λ e. omega arith)
-    ∙ L.trimmed _ _ c.trim-name.ensures
+pub returns : goal.returns
+unfolding scalar_name
+returns c = let l = c.loop-spelling in let e : l.spelling-index ≡ 22 = omega arith in
+    sym (ap (named_in names) (sym c.trim-name.ensures) ∙ l.invariant.0 ∙ ap (λ (k : ℕ). named_in (drop k names) c.trim-name.result.now) e)
