@@ -1,18 +1,20 @@
 -- Laws of blank entries, over every width and capacity: the machine's test for zero is `is_zero`, and a list is clear by
 -- its length first and then entry by entry.
 use Rattle.std.specs.Prelude.{if◌then◌else◌}
-use Prim.Native.Nat.{ℕ, suc, ◌+◌, ◌-◌, ◌^◌, ◌≤◌, ◌<◌}
+use Prim.Native.Nat.{ℕ, zero, suc, ◌+◌, ◌-◌, ◌^◌, ◌≤◌, ◌<◌}
+use native.Mathlib.Nat.{le_refl}
 use native.Mathlib.Omega.{arith}
 use native.Mathlib.Numerals.{add-one}
-use mathlib.Core.Bool.{Bool, true, false}
-use mathlib.Core.List.{List, ◌∷◌}
+use mathlib.Core.Bool.{Bool, true, false, ◌&&◌}
+use mathlib.Core.List.{List, [], ◌∷◌, map}
 use mathlib.Core.Path.{◌≡◌, refl, sym, ap, subst, ◌∙◌}
-use borrow.Author.Tests.{ne_eqb, le-leb, lt-leb}
+use borrow.Author.Tests.{eq-eqb, ne_eqb, le-leb, lt-leb}
 use lib.Dec.{T, eqb}
 use lib.IntN.{ℤ, pos, negsuc}
-use lib.ListN.{length, drop, get_or, drop_of_length-le}
-use lib.Seq.{drop-cons}
-use mir.Syntax.{Width}
+use lib.ListN.{length, take, drop, get_or, length-drop, drop_of_length-le}
+use lib.Signed.{mag}
+use lib.Seq.{drop-cons, take_all}
+use mir.Syntax.{Width, w64}
 use mir.Val.{SFits, bits, of_z, to_z}
 use mir.ValLaws.{to_z_pos, to_z-neg}
 use Rattle.meaning.specs.Normal.{is_zero, all_zero, clear}
@@ -30,21 +32,28 @@ zero_bits w (negsuc n) f = ne_eqb (2 ^ bits w - suc n) 0 (λ e. apart (sym (ap (
 pub over : (cap : ℕ) (used : Bool) (n : ℕ) (l : List ℤ) → (if used then cap else 0) < n → clear cap used n l ≡ false
 over cap used n l h = rw (lt-leb n (if used then cap else 0) h)
 
-pub within : (cap : ℕ) (used : Bool) (n : ℕ) (l : List ℤ) → n ≤ (if used then cap else 0) → clear cap used n l ≡ all_zero (drop n l)
-within cap used n l h = rw (le-leb n (if used then cap else 0) h)
+module _ {X : Type 0} (is : X → ℤ) where
+  whole : (n : ℕ) (l : List X) → drop n (map is l) ≡ map is (drop n l)
+  whole zero l = refl
+  whole (suc n) [] = refl
+  whole (suc n) (x ∷ l) = whole n l
 
-pub past : (l : List ℤ) (i : ℕ) → length l ≤ i → all_zero (drop i l) ≡ true
-past l i h = rw (drop_of_length-le l h)
+  -- from the entries past the length on
+  pub within : (cap : ℕ) (used : Bool) (n : ℕ) (l : List X) → n ≤ (if used then cap else 0)
+      → clear cap used n (map is l) ≡ all_zero (map is (take (length l - n) (drop n l)))
+  within cap used n l h = rw (le-leb n (if used then cap else 0) h) (ap all_zero (whole n l ∙ ap (map is) (sym (take_all (length l - n) (drop n l) (rw length-drop (le_refl (length l - n)))))))
 
-entry : (l : List ℤ) (i : ℕ) → i < length l → drop i l ≡ get_or l i (pos 0) ∷ drop (i + 1) l
-entry l i h = rw (add-one, drop-cons l i (pos 0))
+  module _ (l : List X) (i : ℕ) where
+    pub past : length l ≤ i → all_zero (map is (drop i l)) ≡ true
+    past h = rw (drop_of_length-le l h)
 
--- what the test t of the entry i tells, which the machine handed over at width w
-module _ (w : Width) (l : List ℤ) (i : ℕ) {t : Bool} (h : i < length l)
-    (same : to_z w (of_z w (get_or l i (pos 0))) ≡ get_or l i (pos 0))
-    (test : t ≡ is_zero (to_z w (of_z w (get_or l i (pos 0))))) where
-  pub not_zero : t ≡ false → all_zero (drop i l) ≡ false
-  not_zero e = rw (entry l i h, ← ap is_zero same, ← test, e)
+    -- what the test of the entry i tells, widened to t
+    module _ (d : X) (h : i < length l) {x : X} (e : x ≡ get_or l i d) {t : ℤ} (z : t ≡ is x) (f : mag t < 2 ^ 63) where
+      entry : all_zero (map is (drop i l)) ≡ is_zero t && all_zero (map is (drop (i + 1) l))
+      entry = rw (add-one, drop-cons l i d, z, e)
 
-  pub one_more : t ≡ true → all_zero (drop i l) ≡ all_zero (drop (i + 1) l)
-  one_more e = rw (entry l i h, ← ap is_zero same, ← test, e)
+      pub not_zero : (of_z w64 t ≡ 0 → ⊥) → all_zero (map is (drop i l)) ≡ false
+      not_zero n = entry ∙ ap (λ (b : Bool). b && all_zero (map is (drop (i + 1) l))) (sym (zero_bits w64 t (record { sfits = f })) ∙ ne_eqb _ _ n)
+
+      pub one_more : of_z w64 t ≡ 0 → all_zero (map is (drop i l)) ≡ all_zero (map is (drop (i + 1) l))
+      one_more n = entry ∙ ap (λ (b : Bool). b && all_zero (map is (drop (i + 1) l))) (sym (zero_bits w64 t (record { sfits = f })) ∙ eq-eqb _ _ n)

@@ -4,7 +4,7 @@ use mathlib.Core.Bool.{Bool}
 use mathlib.Core.Path.{◌≡◌, sym, ◌∙◌}
 use borrow.Fn.Kinds.{ended_of}
 use denote.Triple.Clauses.{AtExit}
-use Rattle.lexis.proofs.Unique.{One, spot_one}
+use Rattle.lexis.proofs.Unique.{One}
 use Rattle.meaning.specs.declared.Record.{Record}
 use Rattle.meaning.specs.declared.Refusal.{Refusal}
 use Rattle.meaning.proofs.normal.blank.Reads as blank
@@ -36,4 +36,4 @@ pub one_refuse : One refuse.Post
 one_refuse κs a x y s t p q = p ∙ sym q
 
 pub one_first_high : One first-high.Post
-one_first_high κs a x y s t p q = spot_one x y (p ∙ sym q)
+one_first_high κs a x y s t p q = p ∙ sym q

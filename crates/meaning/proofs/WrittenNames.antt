@@ -1,15 +1,20 @@
 -- The 16 scalars and the name that the writer gives each, which is its first spelling in `parse_scalar` (01, "Written text"). By computation.
-use Prim.Native.Nat.{ℕ}
+use Prim.Native.Nat.{ℕ, zero, suc}
 use mathlib.Core.List.{List, [], ◌∷◌, map}
-use Rattle.std.specs.Prelude.{Some}
+use Rattle.std.specs.Prelude.{Option, None, Some}
 use mathlib.Core.Path.{◌≡◌, refl}
-use Rattle.lexis.specs.Text.{Text, bytes}
+use Rattle.lexis.specs.Text.{bytes}
 use Rattle.scalars.specs.Names.{Name, ◌is◌}
-use Rattle.scalars.proofs.Naming.{at_place}
 use Rattle.scalars.specs.declared.scalar.Scalar.{Scalar}
 use Rattle.scalars.specs.declared.scalar.Scalar.TheVariants.{I1, I4, I8, I16, I32, I64, F16, BF16, F32, TF32, F64, F8E4M3FN, F8E5M2, F8E8M0FNU, F4E2M1FN, F8E5M3FNU}
 use Rattle.meaning.specs.Strict.{word}
 use Rattle.meaning.specs.Written.{first}
+
+-- the scalar at a place in a list of names
+abbrev at_place : List Name → ℕ → Option Scalar
+at_place [] k = None
+at_place (n ∷ ns) zero = Some n.scalar
+at_place (n ∷ ns) (suc k) = at_place ns k
 
 abbrev pub written_names : List Name
 written_names =

@@ -15,7 +15,7 @@ use scalars::Scalar;
 pub const CAP: usize = 8;
 
 // The kinds of a type.
-#[derive(Clone, Copy)]
+#[derive(Clone, Copy, PartialEq, Eq)]
 pub enum Kind {
     Scalar,
     Pointer,
@@ -28,7 +28,7 @@ pub enum Kind {
 }
 
 // A view's padding, or none.
-#[derive(Clone, Copy)]
+#[derive(Clone, Copy, PartialEq, Eq)]
 pub enum Padding {
     Absent,
     Zero,
@@ -39,7 +39,7 @@ pub enum Padding {
 }
 
 // A type, flat: five lists, each an array and a length. The fields stand as they cross to C (`numbers`), so that nothing is moved there.
-#[derive(Clone, Copy)]
+#[derive(Clone, Copy, PartialEq, Eq)]
 pub struct Record {
     pub shape_len: usize,
     pub strides_len: usize,
@@ -59,18 +59,18 @@ pub struct Record {
     pub attribute: bool,
 }
 
-// Why a call refused, or that it accepted.
-#[derive(Clone, Copy)]
+// Why a call refused, or that it accepted, by 01's numbers.
+#[derive(Clone, Copy, PartialEq, Eq)]
 pub enum Refusal {
-    Accepted,
-    TooLong,
-    HighByte,
-    NoType,
-    TooMany,
-    NotStrict,
-    NotNormal,
-    NoText,
-    RoomShort,
+    Accepted = 0,
+    TooLong = 1,
+    HighByte = 2,
+    NoType = 3,
+    TooMany = 4,
+    NotStrict = 5,
+    NotNormal = 6,
+    NoText = 7,
+    RoomShort = 8,
 }
 
 impl Refusal {
@@ -78,22 +78,12 @@ impl Refusal {
     pub fn number(self) -> u8
         ensures { result ≡ number self }
     {
-        match self {
-            Refusal::Accepted => 0,
-            Refusal::TooLong => 1,
-            Refusal::HighByte => 2,
-            Refusal::NoType => 3,
-            Refusal::TooMany => 4,
-            Refusal::NotStrict => 5,
-            Refusal::NotNormal => 6,
-            Refusal::NoText => 7,
-            Refusal::RoomShort => 8,
-        }
+        self as u8
     }
 }
 
 // How often an ordinary reading took a default: the counts (a) to (d).
-#[derive(Clone, Copy)]
+#[derive(Clone, Copy, PartialEq, Eq)]
 pub struct Note {
     pub a: usize,
     pub b: usize,
@@ -102,7 +92,7 @@ pub struct Note {
 }
 
 // What a reader answers.
-#[derive(Clone, Copy)]
+#[derive(Clone, Copy, PartialEq, Eq)]
 pub struct Reading {
     pub value: Record,
     pub place: usize,
@@ -111,7 +101,7 @@ pub struct Reading {
 }
 
 // What the writer answers.
-#[derive(Clone, Copy)]
+#[derive(Clone, Copy, PartialEq, Eq)]
 pub struct Written {
     pub refusal: Refusal,
     pub len: usize,

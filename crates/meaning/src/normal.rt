@@ -1,9 +1,10 @@
 // The blank record, and whether a record is normal (01, "Records and numbers").
-ghost use Rattle.std.specs.Prelude.{if◌then◌else◌, ◌≡◌};
+ghost use Rattle.std.specs.Prelude.{if◌then◌else◌, ◌≡◌, length, map};
 ghost use Rattle.meaning.specs.Found.{flat, token};
-ghost use Rattle.meaning.specs.Normal.{is_zero, is_i1, is_absent, row, uses, clear, lists_clear, rest_blank, normal};
+ghost use Rattle.meaning.specs.Normal.{is_i1, is_absent, row, uses, clear, lists_clear, rest_blank, normal};
 
 use crate::{CAP, Kind, Padding, Record};
+use numerals::Integer;
 use scalars::Scalar;
 
 // What a kind uses; the attribute flag all do.
@@ -48,74 +49,43 @@ pub fn blank() -> Record
 pub fn is_normal(r: Record) -> bool
     ensures { result ≡ normal 8 r }
 {
-    let kind = r.kind;
-    let u = used_by(kind);
-    lists_clear(u, r) & rest_blank(u, r)
+    let u = used_by(r.kind);
+    lists_clear(u, &r) & rest_blank(u, &r)
 }
 
 // Each list is within its limit, with zeros past its length.
-fn lists_clear(u: Uses, r: Record) -> bool
-    ensures { result ≡ lists_clear 8 u r }
+fn lists_clear(u: Uses, r: &Record) -> bool
+    ensures { result ≡ lists_clear 8 u r.now }
 {
-    let shape = r.shape;
-    let strides = r.strides;
-    let tile = r.tile;
-    let map = r.map;
-    let traversal = r.traversal;
-    let a = clear64(u.shape, r.shape_len, shape);
-    let b = clear64(u.strides, r.strides_len, strides);
-    let c = clear32(u.tile, r.tile_len, tile);
-    let d = clear32(u.map, r.map_len, map);
-    let e = clear32(u.traversal, r.traversal_len, traversal);
-    a & b & c & d & e
+    clear(u.shape, r.shape_len, &r.shape)
+        & clear(u.strides, r.strides_len, &r.strides)
+        & clear(u.tile, r.tile_len, &r.tile)
+        & clear(u.map, r.map_len, &r.map)
+        & clear(u.traversal, r.traversal_len, &r.traversal)
 }
 
 // What is no list, and isn't used, is blank: I1, false, zero, no padding.
-fn rest_blank(u: Uses, r: Record) -> bool
-    ensures { result ≡ rest_blank u r }
+fn rest_blank(u: Uses, r: &Record) -> bool
+    ensures { result ≡ rest_blank u r.now }
 {
-    let element = r.element;
-    let padding = r.padding;
-    let a = is_i1(element);
-    let b = sparse_zero(r);
-    let c = is_absent(padding);
-    (u.element | a) & (u.pointer | !r.pointer) & (u.sparse | b) & (u.padding | c)
+    (u.element | is_i1(r.element))
+        & (u.pointer | !r.pointer)
+        & (u.sparse | (r.sparse == 0))
+        & (u.padding | is_absent(r.padding))
 }
 
-fn sparse_zero(r: Record) -> bool
-    ensures { result ≡ is_zero r.sparse }
-{
-    is_zero32(r.sparse)
-}
-
-fn clear64(used: bool, n: usize, l: [i64; CAP]) -> bool
-    ensures { result ≡ clear 8 used n l }
+// A list of `n` entries is within its limit, and zero past them.
+fn clear<T: Integer>(used: bool, n: usize, l: &[T]) -> bool
+    requires { length l.now ≡ 8 }
+    ensures { result ≡ clear 8 used n (map T.is l.now) }
 {
     if limit(used) < n {
         return false;
     }
-    let mut i = n; // the entries past the length
-    while i < CAP {
-        if !is_zero64(l[i]) {
+    for z in &l[n..] {
+        if z.wide() != 0 {
             return false;
         }
-        i += 1;
-    }
-    true
-}
-
-fn clear32(used: bool, n: usize, l: [i32; CAP]) -> bool
-    ensures { result ≡ clear 8 used n l }
-{
-    if limit(used) < n {
-        return false;
-    }
-    let mut i = n;
-    while i < CAP {
-        if !is_zero32(l[i]) {
-            return false;
-        }
-        i += 1;
     }
     true
 }
@@ -127,36 +97,16 @@ fn limit(used: bool) -> usize
     if used { CAP } else { 0 }
 }
 
-fn is_zero64(z: i64) -> bool
-    ensures { result ≡ is_zero z }
-{
-    z == 0
-}
-
-fn is_zero32(z: i32) -> bool
-    ensures { result ≡ is_zero z }
-{
-    z == 0
-}
-
-// I1 alone has one bit.
 fn is_i1(e: Scalar) -> bool
     ensures { result ≡ is_i1 e }
 {
-    e.bits() == 1
+    matches!(e, Scalar::I1)
 }
 
 fn is_absent(p: Padding) -> bool
     ensures { result ≡ is_absent p }
 {
-    match p {
-        Padding::Absent => true,
-        Padding::Zero => false,
-        Padding::NegZero => false,
-        Padding::Nan => false,
-        Padding::PosInf => false,
-        Padding::NegInf => false,
-    }
+    matches!(p, Padding::Absent)
 }
 
 // In this order: element, pointer, shape, strides, tile, map, traversal, sparse, padding.

@@ -21,6 +21,10 @@ pub trait Integer: Copy {
         requires { n ≤ MOST + 1 }
         ensures { is result ≡ minus n };
 
+    // The same number at 64 bits.
+    fn wide(self) -> i64
+        ensures { result ≡ is self };
+
     ghost range: { MOST + 1 ≡ 2 ^ (bits - 1) };
 
     ghost small: { MOST < 2 ^ 63 };
@@ -46,6 +50,10 @@ impl Integer for i64 {
     fn minus(n: u64) -> i64 {
         if n == 0 { 0 } else { -1 - ((n - 1) as i64) }
     }
+
+    fn wide(self) -> i64 {
+        self
+    }
 }
 
 impl Integer for i32 {
@@ -67,5 +75,9 @@ impl Integer for i32 {
 
     fn minus(n: u64) -> i32 {
         <i64 as Integer>::minus(n) as i32
+    }
+
+    fn wide(self) -> i64 {
+        i64::from(self)
     }
 }
