@@ -1,7 +1,10 @@
 -- Arrays filled from a list zs, over the capacity w: when i places are passed, the first i of zs stand there, and zeros past them.
 use mathlib.Core.Path.{◌≡◌, refl, sym, ap, ◌∙◌}
 use mathlib.Core.List.{List, [], ◌∷◌}
-use Prim.Native.Nat.{ℕ, zero, suc, ◌+◌, ◌≤◌, ◌<◌}
+use Prim.Native.Nat.{ℕ, zero, suc, ◌+◌, ◌≤◌, ◌<◌, min}
+use mathlib.Core.Bool.{Bool, true, false}
+use borrow.Author.Tests.{leb-true, leb-false}
+use lib.Dec.{leb}
 use native.Mathlib.Nat.{not-suc-le-zero, le_of_suc-le-suc, add-zero}
 use native.Mathlib.Numerals.{add-one}
 use native.Mathlib.Omega.{arith}
@@ -41,16 +44,20 @@ module _ (w : ℕ) (zs : List ℤ) where
               ∙ slot w (take i zs) (get_or zs i (pos 0)) ∙ ap (padded w) (sym (take-suc zs i (pos 0) k) ∙ ap (λ (n : ℕ). take n zs) (sym (add-one i)));
         }
 
-    pub pass : length zs ≤ i → vs' ≡ vs → Filled vs' (i + 1)
-    pass k q = record { low = omega arith; is = q ∙ g.is ∙ ap (padded w) (take_all i zs k ∙ sym (take_all (i + 1) zs (omega arith))) }
-
-  pub whole : {vs : List ℤ} {i n : ℕ} {r : Row} → Filled vs i → w ≤ i → n ≡ length zs → r ≡ filled_row n
+  -- all that there is room for has been stored
+  pub whole : {vs : List ℤ} {i n : ℕ} {r : Row} → Filled vs i → min n w ≤ i → n ≡ length zs → r ≡ filled_row n
       → ◌≡◌ {A = Laid} (record { values = vs; row = r }) (laid w (filled zs))
   whole {i = i} g h m a =
-      let e : i ≡ w = omega (arith, g.low) in
-      let v = g.is ∙ ap (λ (j : ℕ). padded w (take j zs)) e ∙ cut_off w zs in
+      let v = g.is ∙ all i g.low (omega arith) in
       let l = a ∙ ap filled_row m in
       λ j. record { values = v j; row = l j }
+    where
+      all : (i : ℕ) → i ≤ w → min (length zs) w ≤ i → padded w (take i zs) ≡ padded w zs
+      all i l h = by (leb (length zs) i) (leb-true (length zs) i) (leb-false (length zs) i)
+        where
+          by : (b : Bool) → (b ≡ true → length zs ≤ i) → (b ≡ false → i < length zs) → padded w (take i zs) ≡ padded w zs
+          by true f g = ap (padded w) (take_all i zs (f refl))
+          by false f g = let k = g refl in let e : i ≡ w = omega arith in ap (λ (j : ℕ). padded w (take j zs)) e ∙ cut_off w zs
 
 -- ── counting up ──
 

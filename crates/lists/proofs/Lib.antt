@@ -1,4 +1,4 @@
-pub mod Entries
+pub mod ByNumeral
 pub mod Laying
 pub mod Filling
 pub mod Bounds

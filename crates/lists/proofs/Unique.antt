@@ -5,20 +5,23 @@ use Prim.Native.Nat.{ℕ, ◌-◌}
 use native.Mathlib.Omega.{arith}
 use lib.ListN.{length, length-drop}
 use Rattle.lexis.specs.Text.{Text}
-use Rattle.lexis.proofs.Unique.{One}
+use denote.RattleType.{RattleType}
+use denote.Param.Laws.{Laws, IsCopy}
+use mir.Syntax.{Dict}
+use Rattle.std.specs.declared.clone.Clone as Clone
+use Rattle.numerals.specs.declared.integer.Integer as Integer
+use Rattle.lists.specs.declared.entries.Entries as Entries
+use Rattle.lexis.proofs.Unique.{One, Alike}
 use Rattle.meaning.specs.Found.{Entry, counted}
-use Rattle.lists.specs.Laid.{Laid, said64, said32, list64, list32, Fronted}
-use Rattle.lists.specs.declared.entry.Entry64.{Entry64}
-use Rattle.lists.specs.declared.entry.Entry64.TheVariants as E64
-use Rattle.lists.specs.declared.entry.Entry32.{Entry32}
-use Rattle.lists.specs.declared.entry.Entry32.TheVariants as E32
-use Rattle.lists.specs.declared.list.List64.{List64}
-use Rattle.lists.specs.declared.list.List32.{List32}
+use Rattle.lists.specs.Laid.{Laid, said, list, listed, Fronted}
+use Rattle.lists.specs.declared.entry.Entry as E
+use Rattle.lists.specs.declared.entry.Entry.TheVariants.{Read, Fell}
+use Rattle.lists.specs.declared.list.Listing.{Listing}
+use Rattle.std.specs.Prelude.{List, ℤ}
 use Rattle.lists.specs.declared.list.Front.{Front}
 use Rattle.lists.proofs.entry.parse_dim.Reads as parse-dim
 use Rattle.lists.proofs.entry.parse_small.Reads as parse-small
-use Rattle.lists.proofs.fill.none64.Reads as none64
-use Rattle.lists.proofs.fill.none32.Reads as none32
+use Rattle.lists.proofs.list.Listing.none.Reads as none
 use Rattle.lists.proofs.fill.dynamic.Reads as dynamic
 use Rattle.lists.proofs.fill.count_up.Reads as count_up
 use Rattle.lists.proofs.fill.ones.Reads as ones
@@ -30,67 +33,60 @@ use Rattle.lists.proofs.list.parse_one.Reads as parse_one
 
 -- ── entries ──
 
-said64_one : (e f : Entry64) → said64 e ≡ said64 f → e ≡ f
-said64_one (E64.Read z) (E64.Read y) p = ap (λ (e : Entry). E64.Read e.value) p
-said64_one (E64.Read z) (E64.Fell y) p = let n = ap (λ (e : Entry). counted e.came) p in let f : ⊥ = omega arith in absurd f
-said64_one (E64.Fell z) (E64.Read y) p = let n = ap (λ (e : Entry). counted e.came) p in let f : ⊥ = omega arith in absurd f
-said64_one (E64.Fell z) (E64.Fell y) p = ap (λ (e : Entry). E64.Fell e.value) p
-
-said32_one : (e f : Entry32) → said32 e ≡ said32 f → e ≡ f
-said32_one (E32.Read z) (E32.Read y) p = ap (λ (e : Entry). E32.Read e.value) p
-said32_one (E32.Read z) (E32.Fell y) p = let n = ap (λ (e : Entry). counted e.came) p in let f : ⊥ = omega arith in absurd f
-said32_one (E32.Fell z) (E32.Read y) p = let n = ap (λ (e : Entry). counted e.came) p in let f : ⊥ = omega arith in absurd f
-said32_one (E32.Fell z) (E32.Fell y) p = ap (λ (e : Entry). E32.Fell e.value) p
+said_one : (e f : E.Entry ℤ) → said e ≡ said f → e ≡ f
+said_one (Read z) (Read y) p = ap (λ (e : Entry). Read e.value) p
+said_one (Read z) (Fell y) p = let n = ap (λ (e : Entry). counted e.came) p in let f : ⊥ = omega arith in absurd f
+said_one (Fell z) (Read y) p = let n = ap (λ (e : Entry). counted e.came) p in let f : ⊥ = omega arith in absurd f
+said_one (Fell z) (Fell y) p = ap (λ (e : Entry). Fell e.value) p
 
 pub parse_dim_one : One parse-dim.Post
-parse_dim_one κs a x y s t p q = said64_one x y (p ∙ sym q)
+parse_dim_one κs a x y s t p q = said_one x y (p ∙ sym q)
 
 pub parse_small_one : One parse-small.Post
-parse_small_one κs a x y s t p q = said32_one x y (p ∙ sym q)
+parse_small_one κs a x y s t p q = said_one x y (p ∙ sym q)
 
 -- ── lists ──
 
-list64_one : {l m : List64} → list64 l ≡ list64 m → l ≡ m
-list64_one e = ap {B = List64} (λ (x : Laid). record { values = x.values; row = x.row }) e
-
-list32_one : {l m : List32} → list32 l ≡ list32 m → l ≡ m
-list32_one e = ap {B = List32} (λ (x : Laid). record { values = x.values; row = x.row }) e
-
-pub none64_one : One none64.Post
-none64_one κs a x y s t p q = list64_one (p ∙ sym q)
-
-pub none32_one : One none32.Post
-none32_one κs a x y s t p q = list32_one (p ∙ sym q)
+list_one : {l m : Listing (List ℤ)} → list l ≡ list m → l ≡ m
+list_one e = ap {B = Listing (List ℤ)} (λ (x : Laid). record { values = x.values; row = x.row }) e
 
 pub dynamic_one : One dynamic.Post
-dynamic_one κs a x y s t p q = list64_one (p ∙ sym q)
+dynamic_one κs a x y s t p q = list_one (p ∙ sym q)
 
 pub count_up_one : One count_up.Post
-count_up_one κs a x y s t p q = list32_one (p ∙ sym q)
+count_up_one κs a x y s t p q = list_one (p ∙ sym q)
 
 pub ones_one : One ones.Post
-ones_one κs a x y s t p q = list32_one (p ∙ sym q)
+ones_one κs a x y s t p q = list_one (p ∙ sym q)
 
 pub zero_one : One zero.Post
-zero_one κs a x y s t p q = list32_one (p ∙ sym q)
+zero_one κs a x y s t p q = list_one (p ∙ sym q)
 
 pub parse_dims_one : One parse-dims.Post
-parse_dims_one κs a x y s t p q = list64_one (p ∙ sym q)
+parse_dims_one κs a x y s t p q = list_one (p ∙ sym q)
 
 pub parse_smalls_one : One parse-smalls.Post
-parse_smalls_one κs a x y s t p q = list32_one (p ∙ sym q)
+parse_smalls_one κs a x y s t p q = list_one (p ∙ sym q)
 
 pub parse_one_one : One parse_one.Post
-parse_one_one κs a x y s t p q = list32_one (p ∙ sym q)
+parse_one_one κs a x y s t p q = list_one (p ∙ sym q)
 
 -- ── dimensions with a place ──
 
 fronted_one : (w : ℕ) (s : Text) {x y : Front} → Fronted w s x → Fronted w s y → x ≡ y
 fronted_one w s {x} {y} p q =
-    let l = list64_one (p.dims ∙ sym q.dims) in
+    let l = list_one (p.dims ∙ sym q.dims) in
     let d : length s - x.last ≡ length s - y.last = sym (length-drop x.last s) ∙ ap length (p.part ∙ sym q.part) ∙ length-drop y.last s in
     let k : x.last ≡ y.last = omega (arith, p.inside, q.inside) in
     λ i. record { dims = l i; last = k i }
 
 pub parse_front_one : One parse-front.Post
 parse_front_one κs a x y s t p q = fronted_one 8 _ p q
+
+-- ── for every array of entries ──
+
+module _ (A E : RattleType) (la : Laws A) (le : Laws E) (ca : IsCopy A) (ce : IsCopy E)
+    (entries : Entries.Ghosts A.Denot E.Denot) (d : Dict) (clone : Clone.Ghosts A.Denot) (d' : Dict)
+    (integer : Integer.Ghosts E.Denot) (e : Dict) (clone' : Clone.Ghosts E.Denot) (e' : Dict) where
+  pub none_one : Alike (λ κs x. listed entries.values x) (none.Post A E la le ca ce entries d clone d' integer e clone' e')
+  none_one κs a x y s t p q = p ∙ sym q

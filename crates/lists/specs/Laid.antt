@@ -8,12 +8,9 @@ use Rattle.meaning.specs.Parts.{last, front}
 use Rattle.meaning.specs.Found.{Entry, as_read, as_fallen, Clause, stands, filled, values, padded, unreadable}
 use Rattle.meaning.specs.Tile.{dimensions}
 use Rattle.meaning.specs.Views.{small}
-use Rattle.lists.specs.declared.entry.Entry64.{Entry64}
-use Rattle.lists.specs.declared.entry.Entry64.TheVariants as E64
-use Rattle.lists.specs.declared.entry.Entry32.{Entry32}
-use Rattle.lists.specs.declared.entry.Entry32.TheVariants as E32
-use Rattle.lists.specs.declared.list.List64.{List64}
-use Rattle.lists.specs.declared.list.List32.{List32}
+use Rattle.lists.specs.declared.entry.Entry as E
+use Rattle.lists.specs.declared.entry.Entry.TheVariants.{Read, Fell}
+use Rattle.lists.specs.declared.list.Listing.{Listing}
 use Rattle.lists.specs.declared.list.Front.{Front}
 use Rattle.lists.specs.declared.row.Row.{Row}
 use Rattle.lists.specs.declared.row.Tally.{Tally}
@@ -39,19 +36,20 @@ laid cap c = record { values = padded cap (values c); row = row c }
 
 -- ── what the code's answers say ──
 
-abbrev pub said64 : Entry64 → Entry
-said64 (E64.Read z) = as_read z
-said64 (E64.Fell z) = as_fallen z
+-- an entry of numbers that are integers by `is`, and one of integers
+abbrev pub said_as : {T : Type 0} → (T → ℤ) → E.Entry T → Entry
+said_as is (Read z) = as_read (is z)
+said_as is (Fell z) = as_fallen (is z)
 
-abbrev pub said32 : Entry32 → Entry
-said32 (E32.Read z) = as_read z
-said32 (E32.Fell z) = as_fallen z
+abbrev pub said : E.Entry ℤ → Entry
+said = said_as (λ z. z)
 
-abbrev pub list64 : List64 → Laid
-list64 l = record { values = l.values; row = l.row }
+-- a list whose array holds the integers `values`, and one of integers
+abbrev pub listed : {A : Type 0} → (A → List ℤ) → Listing A → Laid
+listed values l = record { values = values l.values; row = l.row }
 
-abbrev pub list32 : List32 → Laid
-list32 l = record { values = l.values; row = l.row }
+abbrev pub list : Listing (List ℤ) → Laid
+list = listed (λ l. l)
 
 -- ── the entries between the bytes x ──
 
@@ -60,6 +58,6 @@ smalls d ps = stands (L.map (small d) ps)
 
 -- the dimensions of s before its last part at `x`, and the place where that part begins
 pub record Fronted (cap : ℕ) (s : Text) (r : Front) : Type 0 where
-  pub dims : list64 r.dims ≡ laid cap (dimensions (front (split (code "x") s)))
+  pub dims : list r.dims ≡ laid cap (dimensions (front (split (code "x") s)))
   pub part : drop r.last s ≡ last (split (code "x") s)
   pub inside : r.last ≤ length s

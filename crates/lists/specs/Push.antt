@@ -1,23 +1,13 @@
 -- For private contracts: an entry by its numeral, a list with one entry more, a row that was filled in.
 use Rattle.std.specs.Prelude.{ℕ, ◌+◌, ◌≤◌, false, ◌≡◌, ℤ, set, length, drop}
-use Rattle.lexis.specs.Text.{Text, trim, split}
-use Rattle.numerals.specs.Numeral as N
-use Rattle.numerals.specs.declared.numeral.Number64.{Number64}
-use Rattle.numerals.specs.declared.numeral.Number32.{Number32}
+use Rattle.lexis.specs.Text.{Text, split}
 use Rattle.meaning.specs.Found.{Came, read, fell, Entry}
 use Rattle.meaning.specs.Parts.{last, front}
-use Rattle.meaning.specs.Tile.{read_or, dimensions}
-use Rattle.lists.specs.Laid.{Laid, laid, list64}
+use Rattle.meaning.specs.Tile.{dimensions}
+use Rattle.lists.specs.Laid.{Laid, laid, list}
 use Rattle.lists.specs.declared.list.Front.{Front}
 use Rattle.lists.specs.declared.row.Row.{Row}
 use Rattle.lists.specs.declared.row.Tally.{Tally}
-
--- v is what s says, trimmed
-abbrev pub Says : Number64 → Text → Type 0
-Says v s = N.said64 v ≡ N.numeral 64 (trim s)
-
-abbrev pub small_by : ℤ → Number32 → Entry
-small_by d v = read_or d (N.said32 v)
 
 -- one value more, and the tally then; a place past the end of the values is no place
 abbrev pub put : Laid → ℤ → Tally → Laid
@@ -44,6 +34,6 @@ filled_row n = record { len = n; stood = false; tally = record { fell = 0 } }
 
 -- as `Fronted`, for any byte x
 pub record Ahead (x : ℕ) (s : Text) (r : Front) : Type 0 where
-  pub dims : list64 r.dims ≡ laid 8 (dimensions (front (split x s)))
+  pub dims : list r.dims ≡ laid 8 (dimensions (front (split x s)))
   pub part : drop r.last s ≡ last (split x s)
   pub inside : r.last ≤ length s

@@ -1,5 +1,5 @@
 -- What an entry is, by the tests and answers that the code has of its trimmed text t, or by its numeral where that is known.
-use Rattle.std.specs.Prelude.{if◌then◌else◌, Option, Some}
+use Rattle.std.specs.Prelude.{if◌then◌else◌, Option, None, Some, option_map}
 use mathlib.Core.Path.{◌≡◌, refl, sym, ap, ◌∙◌}
 use mathlib.Core.Bool.{Bool, true, false, ◌&&◌}
 use mathlib.Core.List.{[], ◌∷◌}
@@ -11,7 +11,8 @@ use lib.IntN.{ℤ, negsuc}
 use lib.ListN.{length, take, drop}
 use Rattle.lexis.specs.Text.{Text, bytes, same, trim, until}
 use Rattle.lexis.proofs.Lists.{rest}
-use Rattle.numerals.proofs.Walking.{absent, sought_part}
+use Rattle.numerals.proofs.Numbers.{absent}
+use Rattle.numerals.proofs.Walking.{sought_part}
 use Rattle.numerals.specs.Numeral.{numeral}
 use Rattle.meaning.specs.Found.{as_read}
 use Rattle.meaning.specs.Tile.{DYNAMIC, read_or, dimension}
@@ -36,6 +37,11 @@ module _ (s : Text) {t : Text} {b : Bool} (e : t ≡ trim s) (k : b ≡ same t (
 pub number32 : (d : ℤ) (s : Text) {t : Text} {o : Option ℤ} → t ≡ trim s → o ≡ numeral 32 t → read_or d o ≡ small d s
 unfolding small
 number32 d s e n = ap (read_or d) n ∙ ap (λ (u : Text). read_or d (numeral 32 u)) e
+
+-- the machine's numbers are the integers
+pub as_it_is : (o : Option ℤ) {r : Option ℤ} → option_map (λ (z : ℤ). z) o ≡ r → o ≡ r
+as_it_is None e = e
+as_it_is (Some z) e = e
 
 -- ── where the numeral is known ──
 
