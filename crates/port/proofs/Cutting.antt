@@ -5,16 +5,13 @@ use Prim.Native.Char.{code}
 use mathlib.Core.Bool.{true, false}
 use mathlib.Core.List as L
 use mathlib.Core.List.{List, [], ◌∷◌}
-use Rattle.std.specs.Prelude.{Option, None, Some}
+use Rattle.std.specs.Prelude.{Option, None, Some, ℤ}
 use mathlib.Core.Path.{◌≡◌, refl, sym, ap, subst, ◌∙◌}
 use lib.Dec.{eqb}
 use lib.ListN.{length, take, drop, replicate}
-use Rattle.lexis.specs.Text.{Text, bytes, less_leading, less_trailing, split, Cut, nowhere, at, cut, place, spot}
-use Rattle.lexis.specs.declared.text.Found.{Found}
-use Rattle.lexis.specs.declared.text.Found.TheVariants.{At, Nowhere}
-use Rattle.scalars.specs.Names.{scalar_name, said}
+use Rattle.lexis.specs.Text.{Text, bytes, less_leading, less_trailing, split, Cut, nowhere, at, cut, place}
+use Rattle.scalars.specs.Names.{scalar_name}
 use Rattle.scalars.specs.declared.scalar.Scalar.{Scalar}
-use Rattle.scalars.specs.declared.scalar.Named.{Named}
 use Rattle.lexis.proofs.Lists.{rest}
 use Rattle.lexis.proofs.Seeking.{cut_at, cut_within, cut_nowhere}
 use Rattle.meaning.specs.Found.{Entry, filled}
@@ -23,8 +20,8 @@ use Rattle.meaning.specs.Tile.{DYNAMIC, dimension, dimensions, stride_parts, str
 use Rattle.meaning.specs.Tile as T
 use Rattle.meaning.specs.declared.Kind.TheVariants as K
 use Rattle.lists.specs.declared.list.Front.{Front}
-use Rattle.lists.specs.declared.list.List64.{List64}
-use Rattle.lists.specs.Laid.{Laid, laid, list64, Fronted}
+use Rattle.lists.specs.declared.list.Listing.{Listing}
+use Rattle.lists.specs.Laid.{Laid, laid, list, Fronted}
 use Rattle.port.specs.declared.tensor_view.Tensor.{Tensor}
 use Rattle.port.specs.Carried as C
 use Rattle.port.specs.Carried.{carried, fell, Tensored, tensored, TensorIs}
@@ -33,16 +30,16 @@ use Rattle.port.proofs.Building.{bare, tensor_is, has, lacks}
 
 -- ── a cut, by the place that the code found ──
 
-module _ {f : Found} (p s : Text) (e : spot f ≡ place (cut p s)) where
-  module _ {i : ℕ} (q : f ≡ At i) where
+module _ {f : Option ℕ} (p s : Text) (e : f ≡ place (cut p s)) where
+  module _ {i : ℕ} (q : f ≡ Some i) where
     pub cut_found : cut p s ≡ at (take i s) (drop (i + length p) s)
-    cut_found = cut_at p s i (sym e ∙ ap spot q)
+    cut_found = cut_at p s i (sym e ∙ q)
 
     pub found_within : i + length p ≤ length s
-    found_within = cut_within p s i (sym e ∙ ap spot q)
+    found_within = cut_within p s i (sym e ∙ q)
 
-  pub cut_none : f ≡ Nowhere → cut p s ≡ nowhere
-  cut_none q = cut_nowhere p s (sym e ∙ ap spot q)
+  pub cut_none : f ≡ None → cut p s ≡ nowhere
+  cut_none q = cut_nowhere p s (sym e ∙ q)
 
 -- ── dimensions, then a scalar ──
 
@@ -54,8 +51,8 @@ abbrev pub behind : Text → Text
 behind s = last (split (code "x") s)
 
 module _ (s : Text) {f : Front} (g : Fronted 8 s f) where
-  pub named : {n m : Named} → said n ≡ scalar_name (take (length s - f.last) (drop f.last s)) → n ≡ m → scalar_name (behind s) ≡ said m
-  named e q = sym (e ∙ ap scalar_name (rest s f.last ∙ g.part)) ∙ ap said q
+  pub named : {n m : Option Scalar} → n ≡ scalar_name (take (length s - f.last) (drop f.last s)) → n ≡ m → scalar_name (behind s) ≡ m
+  named e q = sym (e ∙ ap scalar_name (rest s f.last ∙ g.part)) ∙ q
 
   -- one DYNAMIC for each
   pub none_read : {l : Laid} → l ≡ laid 8 (filled (replicate f.dims.row.len DYNAMIC)) → l ≡ laid 8 (strides_of (length (sizes s)) None)
@@ -72,8 +69,8 @@ module _ (s : Text) (strides : Option Text) where
   unfolding tensor_parts
   by_element e = ap (each (tensor_of (sizes s) strides)) e
 
-  pub tensor_read : {e : Scalar} {a b : List64} → scalar_name (behind s) ≡ Some e
-      → list64 a ≡ laid 8 (dimensions (sizes s)) → list64 b ≡ laid 8 (strides_of (length (sizes s)) strides)
+  pub tensor_read : {e : Scalar} {a b : (Listing (List ℤ))} → scalar_name (behind s) ≡ Some e
+      → list a ≡ laid 8 (dimensions (sizes s)) → list b ≡ laid 8 (strides_of (length (sizes s)) strides)
       → TensorIs (record { found = true; element = e; shape = a; strides = b }) (tensor_parts s strides)
   tensor_read {e} n q r = rw (by_element n) (record { is = λ i. Some (record { element = e; shape = q i; strides = r i }) })
 
@@ -108,13 +105,13 @@ module _ (s : Text) (t : Tensor) (h : TensorIs t (tensor s)) where
   unfolding tensor_view
   view_none e = sym (ap (λ (o : Option T.Tensor). each (carried 8) (each tensor_found o)) (lacks (tensored 8) (C.tensor_parts t) (tensor s) h.is e))
 
-  pub view_some : t.found ≡ true → Some (bare K.TensorView t.element false (list64 t.shape) (list64 t.strides)) ≡ each (carried 8) (tensor_view s)
+  pub view_some : t.found ≡ true → Some (bare K.TensorView t.element false (list t.shape) (list t.strides)) ≡ each (carried 8) (tensor_view s)
   unfolding tensor_view
   view_some e =
       let v = has (tensored 8) (C.tensor_parts t) (tensor s) h.is e in
       ap Some (tensor_is (C.tensor_parts t) v.value v.same) ∙ sym (ap (λ (o : Option T.Tensor). each (carried 8) (each tensor_found o)) v.is)
 
-  pub view_sound : t.found ≡ true → (fell (list64 t.shape) ≤ t.shape.row.len) × (fell (list64 t.strides) ≤ t.strides.row.len)
+  pub view_sound : t.found ≡ true → (fell (list t.shape) ≤ t.shape.row.len) × (fell (list t.strides) ≤ t.strides.row.len)
   view_sound e =
       let v = has (tensored 8) (C.tensor_parts t) (tensor s) h.is e in
       (sound_list v.value.shape (ap (λ (x : Tensored). x.shape) v.same), sound_list v.value.strides (ap (λ (x : Tensored). x.strides) v.same))

@@ -1,5 +1,5 @@
 -- Laws of removing a text m, that is not empty, from a text: it is removed at its first place, and then from what follows.
-use Rattle.std.specs.Prelude.{if◌then◌else◌, None, Some}
+use Rattle.std.specs.Prelude.{Option, if◌then◌else◌, None, Some}
 use Prim.Native.Nat.{ℕ, zero, suc, ◌+◌, ◌-◌, ◌≤◌, ◌<◌}
 use native.Mathlib.Nat.{add_assoc, add-zero}
 use native.Mathlib.Numerals.{add-one, sub-one}
@@ -9,9 +9,7 @@ use mathlib.Core.List.{List, [], ◌∷◌, ◌++◌, append_assoc, append-nil}
 use mathlib.Core.Path.{◌≡◌, refl, sym, ap, subst, ◌∙◌}
 use lib.ListN.{length, take, drop, set, get_or, length-set, length-append, length-drop}
 use lib.Seq.{take-suc, take-suc-set, take_all, length-take-le}
-use Rattle.lexis.specs.Text.{Text, bytes, begins, after, Cut, nowhere, at, later, cut, found, place, spot, occurs}
-use Rattle.lexis.specs.declared.text.Found.{Found}
-use Rattle.lexis.specs.declared.text.Found.TheVariants.{At, Nowhere}
+use Rattle.lexis.specs.Text.{Text, bytes, begins, after, Cut, nowhere, at, later, cut, found, place, occurs}
 use Rattle.lexis.proofs.Lists.{rest}
 use Rattle.lexis.proofs.Seeking.{after_drop, Reach, reach, cut_at, cut_within, cut_nowhere}
 use Rattle.meaning.specs.Parts.{less_all, remove}
@@ -98,15 +96,15 @@ unfolding mark
 mark_is = refl
 
 -- what the seeker's answer says
-module _ {f : Found} (t : List ℕ) (e : spot f ≡ place (cut mark t)) where
-  pub seen : {i : ℕ} → f ≡ At i → place (cut sought t) ≡ Some i
-  seen g = ap (λ (m : List ℕ). place (cut m t)) (sym mark_is) ∙ sym e ∙ ap spot g
+module _ {f : Option ℕ} (t : List ℕ) (e : f ≡ place (cut mark t)) where
+  pub seen : {i : ℕ} → f ≡ Some i → place (cut sought t) ≡ Some i
+  seen g = ap (λ (m : List ℕ). place (cut m t)) (sym mark_is) ∙ sym e ∙ g
 
-  pub seen_within : {i : ℕ} → f ≡ At i → i + 27 ≤ length t
+  pub seen_within : {i : ℕ} → f ≡ Some i → i + 27 ≤ length t
   seen_within {i} g = cut_within sought t i (seen g)
 
-  pub unseen : f ≡ Nowhere → place (cut sought t) ≡ None
-  unseen g = ap (λ (m : List ℕ). place (cut m t)) (sym mark_is) ∙ sym e ∙ ap spot g
+  pub unseen : f ≡ None → place (cut sought t) ≡ None
+  unseen g = ap (λ (m : List ℕ). place (cut m t)) (sym mark_is) ∙ sym e ∙ g
 
 -- the first place, as it was told
 module _ (t : List ℕ) {i : ℕ} (e : place (cut mark t) ≡ Some i) where

@@ -1,16 +1,18 @@
 -- Laws of dropping a text m, that is not empty, over and over from the end: the last `length m` bytes decide.
-use Rattle.std.specs.Prelude.{if◌then◌else◌}
+use Rattle.std.specs.Prelude.{if◌then◌else◌, nat_eq}
+use Rattle.std.specs.Cmp.Lexicographic.{pointwise}
+use Rattle.std.proofs.Common.{take-append-drop}
 use Prim.Native.Nat.{ℕ, zero, suc, ◌+◌, ◌-◌, ◌≤◌, ◌<◌}
 use native.Mathlib.Omega.{arith}
 use mathlib.Core.Bool.{Bool, true, false, ◌&&◌}
 use mathlib.Core.List.{List, [], ◌∷◌, ◌++◌}
-use mathlib.Core.Path.{◌≡◌, refl, ap, ◌∙◌}
+use mathlib.Core.Path.{◌≡◌, refl, sym, ap, ◌∙◌}
 use lib.Dec.{eqb, leb}
 use lib.ListN.{length, take, drop, length-drop}
 use lib.Seq.{take-add, length-take-le}
 use borrow.Author.Tests.{eq-eqb, leb-true, leb-false}
 use Rattle.lexis.specs.Text.{begins}
-use Rattle.lexis.proofs.Seeking.{begins_within}
+use Rattle.lexis.proofs.Seeking.{begins_within, turned}
 use Rattle.meaning.specs.Parts.{only, less_repeats}
 
 -- ── a text in front of another ──
@@ -30,6 +32,13 @@ begins_short m s h = by (begins m s) (begins_within m s)
     by : (d : Bool) → (d ≡ true → length m ≤ length s) → d ≡ false
     by true w = let k = w refl in let f : ⊥ = omega arith in absurd f
     by false w = refl
+
+-- the library's test of an end
+ends : (v m : List ℕ) → length v ≡ length m → pointwise nat_eq v m ≡ begins m v
+ends [] [] e = refl
+ends [] (c ∷ m) e = let f : ⊥ = omega arith in absurd f
+ends (b ∷ v) [] e = let f : ⊥ = omega arith in absurd f
+ends (b ∷ v) (c ∷ m) e = λ i. turned b c i && ends v m (let k : length v ≡ length m = omega arith in k) i
 
 module _ (m : List ℕ) where
   -- ── m over and over, k bytes still to be passed over ──
@@ -108,26 +117,29 @@ module _ (m : List ℕ) where
     pub repeats_kept : (u v : List ℕ) → length v ≡ length m → begins m v ≡ false → less_repeats m (u ++ v) ≡ u ++ v
     repeats_kept u v e n = repeats_last u v e ∙ rw n
 
-  -- ── the beginning of s up to e, by the part before e that is as long as m ──
+  -- ── a text, by the part at its end that is as long as m ──
 
-  module _ (s : List ℕ) (e : ℕ) (k : e ≤ length s) where
-    -- that part
-    abbrev pub ending : List ℕ
-    ending = take (e - (e - length m)) (drop (e - length m) s)
+  module _ (h : 0 < length m) (s : List ℕ) where
+    abbrev front : List ℕ
+    front = take (length s - length m) s
 
-    module _ (h : 0 < length m) (l : length m ≤ e) where
-      by_ending : less_repeats m (take e s) ≡ if begins m ending then less_repeats m (take (e - length m) s) else take e s
-      by_ending =
-          let n : e ≡ (e - length m) + (e - (e - length m)) = omega arith in
-          let p : take e s ≡ take (e - length m) s ++ ending = ap (λ (n : ℕ). take n s) n ∙ take-add (e - length m) (e - (e - length m)) s in
-          let w : e - (e - length m) ≤ length (drop (e - length m) s) = rw length-drop (omega arith) in
-          rw p (repeats_last h (take (e - length m) s) ending (length-take-le (e - (e - length m)) (drop (e - length m) s) w ∙ omega arith))
+    abbrev ending : List ℕ
+    ending = drop (length s - length m) s
 
-      pub end_step : begins m ending ≡ true → less_repeats m (take e s) ≡ less_repeats m (take (e - length m) s)
-      end_step t = by_ending ∙ rw t
+    by_ending : length m ≤ length s → less_repeats m s ≡ if pointwise nat_eq ending m then less_repeats m front else s
+    by_ending l =
+        let n : length ending ≡ length m = length-drop (length s - length m) s ∙ omega arith in
+        let p : front ++ ending ≡ s = take-append-drop (length s - length m) s in
+        ap (less_repeats m) (sym p) ∙ repeats_last h front ending n
+        ∙ ap (λ (d : Bool). if d then less_repeats m front else front ++ ending) (sym (ends ending m n))
+        ∙ ap (λ (t : List ℕ). if pointwise nat_eq ending m then less_repeats m front else t) p
 
-      pub end_stop : begins m ending ≡ false → less_repeats m (take e s) ≡ take e s
-      end_stop t = by_ending ∙ rw t
+    pub strip_goes : length m ≤ length s → pointwise nat_eq ending m ≡ true → less_repeats m s ≡ less_repeats m front
+    strip_goes l t = by_ending l ∙ rw t
 
-    pub end_short : e < length m → less_repeats m (take e s) ≡ take e s
-    end_short l = repeats_short (take e s) (omega (arith, length-take-le e s k))
+    pub strip_stays : pointwise nat_eq ending m ≡ false → less_repeats m s ≡ s
+    strip_stays t = by (leb (length m) (length s)) (leb-true (length m) (length s)) (leb-false (length m) (length s))
+      where
+        by : (d : Bool) → (d ≡ true → length m ≤ length s) → (d ≡ false → length s < length m) → less_repeats m s ≡ s
+        by true f g = by_ending (f refl) ∙ rw t
+        by false f g = repeats_short s (g refl)

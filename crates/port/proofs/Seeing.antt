@@ -13,7 +13,7 @@ use lib.ListN.{length, take, drop, get_or, length-take}
 use lib.Seq.{get_or-drop, take_all}
 use Rattle.lexis.specs.Text.{Text, begins, after, Cut, nowhere, at, later, cut, place, some_of}
 use Rattle.lexis.proofs.Seeking.{never, right, shifted, unshifted, hit, cut_within}
-use Rattle.lexis.proofs.Passing.{one_later, grown}
+use Rattle.lexis.proofs.Passing.{one_later, }
 use Rattle.port.specs.Seen.{seen}
 
 -- ── a text at the front of the first bytes ──
@@ -179,20 +179,6 @@ module _ (p s : Text) (j m : ℕ) (l : j + suc m ≡ length p) where
 
   pub stays : (i n : ℕ) → seen p (i + m) s ≡ Some n → seen p (i + 1 + m) s ≡ Some n
   stays i n e = on i ∙ kept p s (i + m) n (omega arith) e
-
-  -- a block with no anchor changes nothing
-  module _ (hot : ℕ → Bool) (g : hot (get_or p j 0) ≡ true) where
-    pub block : (i k : ℕ) → i + k ≤ length s → some_of hot (take k (drop i s)) ≡ false → seen p (i + k + m) s ≡ seen p (i + m) s
-    block i zero h e = ap (λ (n : ℕ). seen p (n + m) s) (add-zero i)
-    block i (suc k) h e = ap (λ (n : ℕ). seen p n s) {x = i + suc k + m} {y = i + k + 1 + m} (omega arith)
-        ∙ both (some_of hot (take k (drop i s))) (hot (get_or s (i + k) 0)) refl refl
-        (sym (ap (λ (n : ℕ). some_of hot (take n (drop i s))) (sym (add-one k)) ∙ grown hot s i k (omega arith)) ∙ e) (block i k (omega arith))
-      where
-        both : (x y : Bool) → some_of hot (take k (drop i s)) ≡ x → hot (get_or s (i + k) 0) ≡ y → x || y ≡ false
-            → (some_of hot (take k (drop i s)) ≡ false → seen p (i + k + m) s ≡ seen p (i + m) s) → seen p (i + k + 1 + m) s ≡ seen p (i + m) s
-        both true y a b c f = absurd (false≢true (sym c))
-        both false true a b c f = absurd (false≢true (sym c))
-        both false false a b c f = calm (i + k) (λ z. false≢true (sym b ∙ ap hot z ∙ g)) ∙ f a
 
 -- ── a fence: a byte that p doesn't have ──
 

@@ -5,9 +5,9 @@ use native.Mathlib.Omega.{arith}
 use mathlib.Core.Bool.{Bool, true, false, false≢true}
 use mathlib.Core.List.{List, []}
 use mathlib.Core.Path.{◌≡◌, refl, sym, ap, subst, ◌∙◌}
-use lib.IntN.{pos}
+use lib.IntN.{ℤ, pos}
 use lib.ListN.{length, take, drop, replicate, length-map}
-use Rattle.lexis.specs.Text.{Text, bytes, split, Cut, nowhere, at, cut, place, spot}
+use Rattle.lexis.specs.Text.{Text, bytes, split, Cut, nowhere, at, cut, place}
 use Rattle.lexis.proofs.Lists.{rest}
 use Rattle.lexis.proofs.Seeking.{cut_at, cut_nowhere}
 use Rattle.meaning.specs.Found.{Entry, Clause, stands, filled, unused}
@@ -15,13 +15,11 @@ use Rattle.meaning.specs.Parts.{each, up_to, between, close}
 use Rattle.meaning.specs.Tile as T
 use Rattle.meaning.specs.Views as W
 use Rattle.scalars.specs.Names.{scalar_name}
-use Rattle.lexis.specs.declared.text.Found.{Found}
-use Rattle.lexis.specs.declared.text.Found.TheVariants.{At, Nowhere}
 use Rattle.meaning.specs.declared.Kind.{Kind}
 use Rattle.meaning.specs.declared.Kind.TheVariants as K
 use Rattle.meaning.specs.declared.Padding.{Padding}
-use Rattle.lists.specs.Laid.{Laid, laid, smalls, list32, list64}
-use Rattle.lists.specs.declared.list.List32.{List32}
+use Rattle.lists.specs.Laid.{Laid, laid, smalls, list}
+use Rattle.lists.specs.declared.list.Listing.{Listing}
 use Rattle.port.specs.Keys.{Scanned, AtMost, from}
 use Rattle.port.specs.declared.survey.Scanning.{Scanning}
 use Rattle.port.proofs.Sighting.{told_some, told_none}
@@ -40,7 +38,7 @@ use Rattle.port.proofs.Clauses.{next, next_within, no_next, entries_are, list_or
 module _ (s : Text) where
   module _ (i : ℕ) (e : place (cut (bytes "tile=(") s) ≡ Some i) where
     pub tile_closed : (n : ℕ) → place (cut (bytes ")") (take (length s - (i + 6)) (drop (i + 6) s))) ≡ Some n
-        → (l : List32) → list32 l ≡ laid 8 (stands (W.tile_entries (take (i + 6 + n - (i + 6)) (drop (i + 6) s))))
+        → (l : Listing (List ℤ)) → list l ≡ laid 8 (stands (W.tile_entries (take (i + 6 + n - (i + 6)) (drop (i + 6) s))))
         → TileIs s i (record { found = true; tile = l; behind = i + 6 + n + 1 }) (between (bytes "tile=(") (bytes ")") s)
     tile_closed n f l r =
         let k : i + 6 + n - (i + 6) ≡ n = omega arith in
@@ -82,15 +80,15 @@ module _ {r : Tensor} (c : Text) (i : ℕ) {q : Scanning} (g : Scanned (take (le
       let e = sym g.end ∙ told_none (length (take (length c - i) (drop i c))) q.end l in
       rw (close_nowhere (drop i c) (rw (rest c i) at e), empty) h
 
-pub opened_within : {n i : ℕ} {q : Found} → AtMost n q → q ≡ At i → i ≤ n
+pub opened_within : {n i : ℕ} {q : Option ℕ} → AtMost n q → q ≡ Some i → i ≤ n
 opened_within {n} h e = subst (AtMost n) e h
 
 module _ {r : Tensor} (c b : Text) where
-  pub opened_at : {i : ℕ} {q : Found} → W.opened c b ≡ from c (spot q) → q ≡ At i → TensorIs r (T.tensor (W.enclosed (close 0 (drop i c)))) → TensorIs r (W.inner_by (W.opened c b))
-  opened_at e q h = subst (λ (o : Option Text). TensorIs r (W.inner_by o)) (sym (e ∙ ap (λ (f : Found). from c (spot f)) q)) h
+  pub opened_at : {i : ℕ} {q : Option ℕ} → W.opened c b ≡ from c q → q ≡ Some i → TensorIs r (T.tensor (W.enclosed (close 0 (drop i c)))) → TensorIs r (W.inner_by (W.opened c b))
+  opened_at e q h = subst (λ (o : Option Text). TensorIs r (W.inner_by o)) (sym (e ∙ ap (λ (f : Option ℕ). from c f) q)) h
 
-  pub opened_nowhere : {q : Found} → W.opened c b ≡ from c (spot q) → q ≡ Nowhere → TensorIs r None → TensorIs r (W.inner_by (W.opened c b))
-  opened_nowhere e q h = subst (λ (o : Option Text). TensorIs r (W.inner_by o)) (sym (e ∙ ap (λ (f : Found). from c (spot f)) q)) h
+  pub opened_nowhere : {q : Option ℕ} → W.opened c b ≡ from c q → q ≡ None → TensorIs r None → TensorIs r (W.inner_by (W.opened c b))
+  opened_nowhere e q h = subst (λ (o : Option Text). TensorIs r (W.inner_by o)) (sym (e ∙ ap (λ (f : Option ℕ). from c f) q)) h
 
 -- ── the view ──
 
@@ -122,7 +120,7 @@ module _ (s : Text) (i : ℕ) (t : TileShape) where
     tiled : (c : Cut) → TileIs s i t c → t.found ≡ true → TensorIs v (W.inner_by (W.opened s (drop t.behind s))) → q ≡ W.padding s → ViewIs whole (W.view_by s c)
     tiled nowhere h f g e = absurd (false≢true (sym h ∙ f))
     tiled (at u b) h f g e = record {
-      is = taken (wrap (list32 t.tile) q) (tensor_parts v) v.found ∙
+      is = taken (wrap (list t.tile) q) (tensor_parts v) v.found ∙
           (λ i. each (wrap (h.tile i) (e i)) (g.is i)) ∙
           ap (λ (b : Text). each (wrap (laid 8 (stands (W.tile_entries u))) (W.padding s)) (each (tensored 8) (W.inner_by (W.opened s b)))) h.onward ∙
           wrapped (W.tile_entries u) (W.padding s) (W.inner_by (W.opened s b));
@@ -145,7 +143,7 @@ module _ (s : Text) (i : ℕ) (t : TileShape) where
 -- what the code says that it built, of a view and the lists of its kind
 abbrev pub view_built : Kind → View → Laid → Laid → Laid → Option Carried
 view_built k v m t z =
-    Some (built k v.tensor.element false (list64 v.tensor.shape) (list64 v.tensor.strides) (list32 v.tile) m t z v.padding)
+    Some (built k v.tensor.element false (list v.tensor.shape) (list v.tensor.strides) (list v.tile) m t z v.padding)
 
 module _ (s : Text) {v : View} (g : ViewIs v (W.view s)) where
   -- ── without a view there is none of the three ──
@@ -169,7 +167,7 @@ module _ (s : Text) {v : View} (g : ViewIs v (W.view s)) where
     has : B.Has (viewed 8) (W.view s) (view_parts v)
     has = B.has (viewed 8) (view_parts v) (W.view s) g.is f
 
-    pub sound : (fell (list64 v.tensor.shape) ≤ v.tensor.shape.row.len) × (fell (list64 v.tensor.strides) ≤ v.tensor.strides.row.len)
+    pub sound : (fell (list v.tensor.shape) ≤ v.tensor.shape.row.len) × (fell (list v.tensor.strides) ≤ v.tensor.strides.row.len)
     sound = let t = has.value.tensor in
         (sound_list t.shape (ap (λ (x : Viewed). x.tensor.shape) has.same), sound_list t.strides (ap (λ (x : Viewed). x.tensor.strides) has.same))
 

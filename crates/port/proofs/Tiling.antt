@@ -7,12 +7,9 @@ use Rattle.std.specs.Prelude.{Option, None, Some}
 use mathlib.Core.Path.{◌≡◌, sym, ap, ◌∙◌}
 use lib.Dec.{eqb}
 use lib.ListN.{length, take, drop}
-use Rattle.lexis.specs.Text.{Text, bytes, trim, less_trailing, split, Cut, nowhere, at, cut, place, spot}
-use Rattle.scalars.specs.Names.{scalar_name, said}
+use Rattle.lexis.specs.Text.{Text, bytes, trim, less_trailing, split, Cut, nowhere, at, cut, place}
+use Rattle.scalars.specs.Names.{scalar_name}
 use Rattle.scalars.specs.declared.scalar.Scalar.{Scalar}
-use Rattle.scalars.specs.declared.scalar.Named.{Named}
-use Rattle.lexis.specs.declared.text.Found.{Found}
-use Rattle.lexis.specs.declared.text.Found.TheVariants.{At, Nowhere}
 use Rattle.lexis.proofs.Lists.{rest}
 use Rattle.meaning.specs.Found.{Clause, unused}
 use Rattle.meaning.specs.Parts.{each, less_repeats}
@@ -49,11 +46,11 @@ module _ (s : Text) where
 
 -- ── a pointer ──
 
-module _ {f : Found} (t : Text) (e : spot f ≡ place (cut (bytes ">") t)) where
-  pub pointee_is : {i : ℕ} {n m : Named} → f ≡ At i → said n ≡ scalar_name (take i t) → n ≡ m → pointee (cut (bytes ">") t) ≡ said m
-  pointee_is q d r = ap pointee (cut_found (bytes ">") t e q) ∙ sym d ∙ ap said r
+module _ {f : Option ℕ} (t : Text) (e : f ≡ place (cut (bytes ">") t)) where
+  pub pointee_is : {i : ℕ} {n m : Option Scalar} → f ≡ Some i → n ≡ scalar_name (take i t) → n ≡ m → pointee (cut (bytes ">") t) ≡ m
+  pointee_is q d r = ap pointee (cut_found (bytes ">") t e q) ∙ sym d ∙ r
 
-  pub pointee_none : f ≡ Nowhere → pointee (cut (bytes ">") t) ≡ None
+  pub pointee_none : f ≡ None → pointee (cut (bytes ">") t) ≡ None
   pointee_none q = ap pointee (cut_none (bytes ">") t e q)
 
 -- the dimensions before it, as they are read of s

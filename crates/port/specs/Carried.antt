@@ -13,7 +13,7 @@ use Rattle.meaning.specs.declared.Record.{Record}
 use Rattle.meaning.specs.declared.Note.{Note}
 use Rattle.meaning.specs.declared.Reading.{Reading}
 use Rattle.meaning.specs.declared.Refusal.TheVariants.{Accepted, NoType, TooMany}
-use Rattle.lists.specs.Laid.{Laid, laid, list64, list32}
+use Rattle.lists.specs.Laid.{Laid, laid, list}
 use Rattle.lists.specs.declared.row.Row.{Row}
 use Rattle.port.specs.Keys.{Placed}
 use Rattle.port.specs.declared.tensor_view.Tensor.{Tensor}
@@ -145,7 +145,7 @@ abbrev pub tensored : ℕ → T.Tensor → Tensored
 tensored cap v = record { element = v.element; shape = laid cap v.shape; strides = laid cap v.strides }
 
 abbrev pub tensor_parts : Tensor → Tensored
-tensor_parts t = record { element = t.element; shape = list64 t.shape; strides = list64 t.strides }
+tensor_parts t = record { element = t.element; shape = list t.shape; strides = list t.strides }
 
 -- a record, so that what stands under it can be inferred
 pub record TensorIs (r : Tensor) (o : Option T.Tensor) : Type 0 where
@@ -162,7 +162,7 @@ abbrev pub viewed : ℕ → W.View → Viewed
 viewed cap v = record { tile = laid cap (stands v.tile); tensor = tensored cap v.tensor; padding = v.padding }
 
 abbrev pub view_parts : View → Viewed
-view_parts v = record { tile = list32 v.tile; tensor = tensor_parts v.tensor; padding = v.padding }
+view_parts v = record { tile = list v.tile; tensor = tensor_parts v.tensor; padding = v.padding }
 
 pub record ViewIs (r : View) (o : Option W.View) : Type 0 where
   pub is : (if r.found then Some (view_parts r) else None) ≡ each (viewed 8) o
@@ -171,7 +171,7 @@ pub record ViewIs (r : View) (o : Option W.View) : Type 0 where
 
 pub record Tiled (s : Text) (at : ℕ) (r : TileShape) (inside behind : Text) : Type 0 where
   pub found : r.found ≡ true
-  pub tile : list32 r.tile ≡ laid 8 (stands (W.tile_entries inside))
+  pub tile : list r.tile ≡ laid 8 (stands (W.tile_entries inside))
   pub onward : drop r.behind s ≡ behind
   pub past : at + 6 ≤ r.behind
   pub fits : r.behind ≤ length s

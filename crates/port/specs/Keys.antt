@@ -1,8 +1,6 @@
 -- The keywords: each with the number of its bytes behind the one by which it is known.
 use Rattle.std.specs.Prelude.{ℕ, ◌+◌, ◌-◌, ◌≤◌, ◌<◌, ◌≡◌, length, take, drop, Option, None, Some}
 use Rattle.lexis.specs.Text.{Text, bytes, cut, place}
-use Rattle.lexis.specs.declared.text.Found.{Found}
-use Rattle.lexis.specs.declared.text.Found.TheVariants.{At, Nowhere}
 use Rattle.meaning.specs.Parts.{each, close, content}
 use Rattle.port.specs.Seen.{told, Sight}
 use Rattle.port.specs.declared.keys.Places.{Places}
@@ -61,9 +59,9 @@ pub record Contained (s : Text) (r : Scanning) : Type 0 where
   pub places : r.end < length s → Placed (take r.end s) r.places
 
 -- a place is at most n
-abbrev pub AtMost : ℕ → Found → Type 0
-AtMost n (At i) = i ≤ n
-AtMost n Nowhere = Unit {0}
+abbrev pub AtMost : ℕ → Option ℕ → Type 0
+AtMost n (Some i) = i ≤ n
+AtMost n None = Unit {0}
 
 -- what follows a place, where there is one
 abbrev pub from : Text → Option ℕ → Option Text

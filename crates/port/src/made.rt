@@ -2,10 +2,10 @@
 ghost use Rattle.std.specs.Prelude.{◌≤◌, ◌≡◌, ◌&&◌, leb, Some};
 ghost use Rattle.meaning.specs.Found.{unused, plain};
 ghost use Rattle.meaning.specs.declared.Padding.TheVariants.{Absent};
-ghost use Rattle.lists.specs.Laid.{laid, list64, list32};
+ghost use Rattle.lists.specs.Laid.{laid, list};
 ghost use Rattle.port.specs.Carried.{carried, built, fell, lacks, rows_noted, answered, Sound};
 
-use lists::{List32, List64, Row};
+use lists::{Dims, Row, Smalls};
 use meaning::{CAP, Kind, Note, Padding, Reading, Record, Refusal, refuse};
 use scalars::Scalar;
 
@@ -48,17 +48,17 @@ pub(crate) fn made(
     kind: Kind,
     element: Scalar,
     pointer: bool,
-    shape: List64,
-    strides: List64,
-    tile: List32,
-    map: List32,
-    traversal: List32,
-    sparse: List32,
+    shape: Dims,
+    strides: Dims,
+    tile: Smalls,
+    map: Smalls,
+    traversal: Smalls,
+    sparse: Smalls,
     padding: Padding,
     marked: bool,
 ) -> Reading
-    requires { Sound (list64 shape) (list64 strides) (list32 tile) (list32 map) (list32 traversal) (list32 sparse) }
-    ensures { result ≡ answered marked (Some (built kind element pointer (list64 shape) (list64 strides) (list32 tile) (list32 map) (list32 traversal) (list32 sparse) padding)) }
+    requires { Sound (list shape) (list strides) (list tile) (list map) (list traversal) (list sparse) }
+    ensures { result ≡ answered marked (Some (built kind element pointer (list shape) (list strides) (list tile) (list map) (list traversal) (list sparse) padding)) }
 {
     let a = shape.row;
     let b = strides.row;
@@ -108,14 +108,14 @@ pub(crate) fn simple(
     kind: Kind,
     element: Scalar,
     pointer: bool,
-    shape: List64,
-    strides: List64,
+    shape: Dims,
+    strides: Dims,
     marked: bool,
 ) -> Reading
-    requires { (fell (list64 shape) ≤ shape.row.len) × (fell (list64 strides) ≤ strides.row.len) }
-    ensures { result ≡ answered marked (Some (built kind element pointer (list64 shape) (list64 strides) (laid 8 unused) (laid 8 unused) (laid 8 unused) (laid 8 unused) Absent)) }
+    requires { (fell (list shape) ≤ shape.row.len) × (fell (list strides) ≤ strides.row.len) }
+    ensures { result ≡ answered marked (Some (built kind element pointer (list shape) (list strides) (laid 8 unused) (laid 8 unused) (laid 8 unused) (laid 8 unused) Absent)) }
 {
-    let l = lists::none32();
+    let l = Smalls::none();
     made(
         kind,
         element,
@@ -135,6 +135,6 @@ pub(crate) fn simple(
 pub(crate) fn listless(kind: Kind, element: Scalar, marked: bool) -> Reading
     ensures { result ≡ answered marked (Some (carried 8 (plain kind element))) }
 {
-    let l = lists::none64();
+    let l = Dims::none();
     simple(kind, element, false, l, l, marked)
 }

@@ -1,29 +1,28 @@
 // Removing the pointer mark (01, module 7).
 ghost use Rattle.std.specs.Prelude.{◌+◌, ◌≤◌, ◌≡◌, ◌++◌, length, take, Some};
-ghost use Rattle.lexis.specs.Text.{cut, place, spot};
+ghost use Rattle.lexis.specs.Text.{cut, place};
 ghost use Rattle.meaning.specs.Parts.{remove};
 ghost use Rattle.meaning.specs.Ordinary.{mark};
 ghost use Rattle.port.specs.Passes.{Rewritten};
 
-use lexis::Found;
 
 // The place of the first mark. A mark has a `#`, and its one `>` at its end: by these two it is sought.
-pub(crate) fn find_mark(text: &[u8]) -> Found
-    ensures { spot result ≡ place (cut mark text.now) }
+pub(crate) fn find_mark(text: &[u8]) -> Option<usize>
+    ensures { result ≡ place (cut mark text.now) }
 {
     let mut from = 0;
     loop {
         let h = lexis::seek(text, from, b'#');
         if text.len() <= h {
-            return Found::Nowhere;
+            return None;
         }
         let e = lexis::seek(text, h, b'>');
         if text.len() <= e {
-            return Found::Nowhere;
+            return None;
         }
         if from + 26 <= e {
             if lexis::begins(&text[e - 26..], b", #cuda_tile.ptr_attr<none>") {
-                return Found::At(e - 26);
+                return Some(e - 26);
             }
         }
         from = e + 1;
@@ -52,11 +51,11 @@ fn remove(text: &[u8], first: usize, room: &mut [u8]) -> usize
     let mut t = &text[first + 27..];
     loop {
         match find_mark(t) {
-            Found::At(i) => {
+            Some(i) => {
                 n = copy(&t[..i], &mut *room, n);
                 t = &t[i + 27..];
             }
-            Found::Nowhere => {
+            None => {
                 return copy(t, &mut *room, n);
             }
         }
@@ -72,8 +71,8 @@ pub(crate) fn without_marks(text: &[u8], room: &mut [u8]) -> usize
         return text.len();
     }
     match find_mark(text) {
-        Found::At(i) => remove(text, i, room),
-        Found::Nowhere => text.len(),
+        Some(i) => remove(text, i, room),
+        None => text.len(),
     }
 }
 

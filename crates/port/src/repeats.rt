@@ -7,12 +7,9 @@ pub(crate) fn trim_end_repeats<'a>(s: &'a [u8], what: &[u8]) -> &'a [u8]
     requires { 0 < length what.now }
     ensures { result.now ≡ less_repeats what.now s.now }
 {
-    let mut e = s.len();
-    while what.len() <= e {
-        if !lexis::begins(&s[e - what.len()..e], what) {
-            return &s[..e];
-        }
-        e -= what.len();
+    let mut rest = s;
+    while let Some(before) = rest.strip_suffix(what) {
+        rest = before;
     }
-    &s[..e]
+    rest
 }

@@ -3,8 +3,9 @@ ghost use Rattle.std.specs.Prelude.{◌≡◌, ◌<◌, Some};
 ghost use Rattle.meaning.specs.Parts.{depth};
 ghost use Rattle.port.specs.Keys.{Scanned, Contained};
 
-use super::anchors::seek_hot;
+use super::anchors::Hot;
 use super::keys::{Places, none_yet, sighted};
+use lexis::seek;
 
 // Where a content ends, or the text's length, and the places in what stands before.
 #[derive(Clone, Copy)]
@@ -33,7 +34,7 @@ pub(crate) fn scan(s: &[u8]) -> Scanning
 {
     let mut r = none_yet(s);
     let mut d: usize = 0;
-    let mut i = seek_hot(s, 0);
+    let mut i = seek(s, 0, Hot);
     while i < s.len() {
         let b = s[i];
         if b == b'>' {
@@ -43,7 +44,7 @@ pub(crate) fn scan(s: &[u8]) -> Scanning
         }
         d = deepened(d, b);
         r = sighted(s, i, r);
-        i = seek_hot(s, i + 1);
+        i = seek(s, i + 1, Hot);
     }
     Scanning {
         end: s.len(),

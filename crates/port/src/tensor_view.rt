@@ -2,23 +2,23 @@
 ghost use Rattle.std.specs.Prelude.{◌+◌, ◌≤◌, ◌≡◌, length, take, drop, Option, None, Some};
 ghost use Rattle.meaning.specs.Parts.{each};
 ghost use Rattle.meaning.specs.Tile.{dimensions, stride_parts, tensor_parts, tensor, tensor_view};
-ghost use Rattle.lists.specs.Laid.{laid, list64};
+ghost use Rattle.lists.specs.Laid.{laid, list};
 ghost use Rattle.port.specs.Keys.{Placed};
 ghost use Rattle.port.specs.Carried.{carried, answered, TensorIs};
 
 use super::keys::Places;
 use super::made::simple;
-use lists::List64;
+use lists::Dims;
 use meaning::{Kind, Reading, Refusal, refuse};
-use scalars::{Named, Scalar};
+use scalars::Scalar;
 
 // A tensor view's parts, where there is one.
 #[derive(Clone, Copy)]
 pub struct Tensor {
     pub found: bool,
     pub element: Scalar,
-    pub shape: List64,
-    pub strides: List64,
+    pub shape: Dims,
+    pub strides: Dims,
 }
 
 // `[shape x]scalar, strides=[strides]`.
@@ -52,13 +52,13 @@ fn with_strides(s: &[u8], strides: &[u8]) -> Tensor
     let last = f.last;
     let shape = f.dims;
     match scalars::parse_scalar(&s[last..]) {
-        Named::Is(element) => Tensor {
+        Some(element) => Tensor {
             found: true,
             element,
             shape,
             strides: parse_strides(strides),
         },
-        Named::Unknown => no_tensor(),
+        None => no_tensor(),
     }
 }
 
@@ -70,19 +70,19 @@ fn without_strides(s: &[u8]) -> Tensor
     let last = f.last;
     let shape = f.dims;
     match scalars::parse_scalar(&s[last..]) {
-        Named::Is(element) => Tensor {
+        Some(element) => Tensor {
             found: true,
             element,
             shape,
             strides: lists::dynamic(shape.row.len),
         },
-        Named::Unknown => no_tensor(),
+        None => no_tensor(),
     }
 }
 
 // All leading `[` and trailing `]` go; split at commas.
-fn parse_strides(s: &[u8]) -> List64
-    ensures { list64 result ≡ laid 8 (dimensions (stride_parts s.now)) }
+fn parse_strides(s: &[u8]) -> Dims
+    ensures { list result ≡ laid 8 (dimensions (stride_parts s.now)) }
 {
     lists::parse_dims(
         lexis::trim_end_matches(lexis::trim_start_matches(s, b'['), b']'),
@@ -93,7 +93,7 @@ fn parse_strides(s: &[u8]) -> List64
 pub(crate) fn no_tensor() -> Tensor
     ensures { TensorIs result None }
 {
-    let l = lists::none64();
+    let l = Dims::none();
     Tensor {
         found: false,
         element: Scalar::I1,

@@ -4,17 +4,15 @@ ghost use Rattle.lexis.specs.Text.{bytes, trim, cut};
 ghost use Rattle.meaning.specs.Parts.{each, less_repeats};
 ghost use Rattle.meaning.specs.Tile.{dimensions, before_pointer, pointee, tile_of, tile_by, tile};
 ghost use Rattle.lexis.specs.Text.{Cut, nowhere, at};
-ghost use Rattle.lists.specs.Laid.{laid, list64};
+ghost use Rattle.lists.specs.Laid.{laid, list};
 ghost use Rattle.port.specs.Keys.{Placed};
 ghost use Rattle.port.specs.Carried.{carried, answered};
 
 use super::keys::Places;
 use super::made::simple;
 use super::repeats::trim_end_repeats;
-use lexis::Found;
-use lists::List64;
+use lists::Dims;
 use meaning::{Kind, Reading, Refusal, refuse};
-use scalars::Named;
 
 // `[shape x]elem` where shape is `dim[xdim]*` and elem is a scalar or a pointer.
 pub(crate) fn parse_tile(inner: &[u8], k: Places, marked: bool) -> Reading
@@ -32,28 +30,28 @@ fn pointer_tile(before: &[u8], after: &[u8], marked: bool) -> Reading
     ensures { result ≡ answered marked (each (carried 8) (each (tile_of true (dimensions (before_pointer (less_repeats (bytes "!cuda_tile.") (trim before.now))))) (pointee (cut (bytes ">") after.now)))) }
 {
     match lexis::find(after, b">") {
-        Found::At(n) => match scalars::parse_scalar(&after[..n]) {
-            Named::Is(e) => simple(
+        Some(n) => match scalars::parse_scalar(&after[..n]) {
+            Some(e) => simple(
                 Kind::Tile,
                 e,
                 true,
                 pointer_shape(before),
-                lists::none64(),
+                Dims::none(),
                 marked,
             ),
-            Named::Unknown => refuse(Refusal::NoType, 0),
+            None => refuse(Refusal::NoType, 0),
         },
-        Found::Nowhere => refuse(Refusal::NoType, 0),
+        None => refuse(Refusal::NoType, 0),
     }
 }
 
 // The dimensions before a pointer: none if nothing is left there.
-fn pointer_shape(before: &[u8]) -> List64
-    ensures { list64 result ≡ laid 8 (dimensions (before_pointer (less_repeats (bytes "!cuda_tile.") (trim before.now)))) }
+fn pointer_shape(before: &[u8]) -> Dims
+    ensures { list result ≡ laid 8 (dimensions (before_pointer (less_repeats (bytes "!cuda_tile.") (trim before.now)))) }
 {
     let b = trim_end_repeats(lexis::trim(before), b"!cuda_tile.");
     if b.len() == 0 {
-        return lists::none64();
+        return Dims::none();
     }
     lists::parse_dims(lexis::trim_end_matches(b, b'x'), b'x')
 }
@@ -65,7 +63,7 @@ fn scalar_tile(inner: &[u8], marked: bool) -> Reading
     let last = f.last;
     let dims = f.dims;
     match scalars::parse_scalar(&inner[last..]) {
-        Named::Is(e) => simple(Kind::Tile, e, false, dims, lists::none64(), marked),
-        Named::Unknown => refuse(Refusal::NoType, 0),
+        Some(e) => simple(Kind::Tile, e, false, dims, Dims::none(), marked),
+        None => refuse(Refusal::NoType, 0),
     }
 }

@@ -15,14 +15,14 @@ use super::tensor_view::parse_tensor_view;
 use super::tile::parse_tile;
 use super::views::{parse_gather_scatter_view, parse_partition_view, parse_strided_view};
 use meaning::{Kind, Reading, Refusal, refuse};
-use scalars::{Named, Scalar};
+use scalars::Scalar;
 
 fn parse_ptr(inner: &[u8], marked: bool) -> Reading
     ensures { result ≡ answered marked (each (carried 8) (pointer inner.now)) }
 {
     match scalars::parse_scalar(inner) {
-        Named::Is(e) => listless(Kind::Pointer, e, marked),
-        Named::Unknown => refuse(Refusal::NoType, 0),
+        Some(e) => listless(Kind::Pointer, e, marked),
+        None => refuse(Refusal::NoType, 0),
     }
 }
 
@@ -31,8 +31,8 @@ fn parse_bare(s: &[u8], marked: bool) -> Reading
     ensures { result ≡ answered marked (each (carried 8) (bare s.now)) }
 {
     match scalars::parse_scalar(s) {
-        Named::Is(e) => listless(Kind::Scalar, e, marked),
-        Named::Unknown => refuse(Refusal::NoType, 0),
+        Some(e) => listless(Kind::Scalar, e, marked),
+        None => refuse(Refusal::NoType, 0),
     }
 }
 

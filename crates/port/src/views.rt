@@ -6,7 +6,7 @@ ghost use Rattle.meaning.specs.Parts.{each, between, close};
 ghost use Rattle.meaning.specs.Tile.{tensor};
 ghost use Rattle.meaning.specs.Views.{tile_entries, opened, enclosed, inner_by, padding, view, list_after, sparse_by};
 ghost use Rattle.meaning.specs.Views.{partition_view, gather_scatter_view, strided_view};
-ghost use Rattle.lists.specs.Laid.{laid, list32, list64};
+ghost use Rattle.lists.specs.Laid.{laid, list};
 ghost use Rattle.port.specs.Keys.{Spot, Placed};
 ghost use Rattle.port.specs.Carried.{carried, built, answered, Sound, TensorIs, ViewIs, TileIs, ListIs, list_laid};
 
@@ -15,15 +15,14 @@ use super::keys::Places;
 use super::made::made;
 use super::survey::scan;
 use super::tensor_view::{Tensor, no_tensor, parse_tensor};
-use lexis::Found;
-use lists::List32;
+use lists::Smalls;
 use meaning::{Kind, Padding, Reading, Refusal, refuse};
 
 // The tile shape, and where what follows its `)` begins.
 #[derive(Clone, Copy)]
 pub struct TileShape {
     pub found: bool,
-    pub tile: List32,
+    pub tile: Smalls,
     pub behind: usize,
 }
 
@@ -31,7 +30,7 @@ pub struct TileShape {
 #[derive(Clone, Copy)]
 pub struct View {
     pub found: bool,
-    pub tile: List32,
+    pub tile: Smalls,
     pub tensor: Tensor,
     pub padding: Padding,
 }
@@ -54,7 +53,7 @@ fn parse_view_tile_shape(inner: &[u8], at: usize) -> TileShape
     }
     let start = at + 6;
     match lexis::find(&inner[start..], b")") {
-        Found::At(n) => {
+        Some(n) => {
             let end = start + n;
             TileShape {
                 found: true,
@@ -62,7 +61,7 @@ fn parse_view_tile_shape(inner: &[u8], at: usize) -> TileShape
                 behind: end + 1,
             }
         }
-        Found::Nowhere => no_tile(),
+        None => no_tile(),
     }
 }
 
@@ -71,14 +70,14 @@ fn no_tile() -> TileShape
 {
     TileShape {
         found: false,
-        tile: lists::none32(),
+        tile: Smalls::none(),
         behind: 0,
     }
 }
 
 // Split at `x` if one occurs, else at commas; an unreadable entry is 1.
-fn tile_entries(s: &[u8]) -> List32
-    ensures { list32 result ≡ laid 8 (stands (tile_entries s.now)) }
+fn tile_entries(s: &[u8]) -> Smalls
+    ensures { list result ≡ laid 8 (stands (tile_entries s.now)) }
 {
     if lexis::contains(s, b"x", 0) {
         lists::parse_smalls(s, b'x', 1)
@@ -119,8 +118,8 @@ fn parse_nested_tensor_view(inner: &[u8], k: Places, behind: usize) -> Tensor
     ensures { TensorIs result (inner_by (opened inner.now (drop behind inner.now))) }
 {
     match opens(inner, k, behind) {
-        Found::At(i) => parse_enclosed(inner, i),
-        Found::Nowhere => no_tensor(),
+        Some(i) => parse_enclosed(inner, i),
+        None => no_tensor(),
     }
 }
 
@@ -164,7 +163,7 @@ fn no_view() -> View
 {
     View {
         found: false,
-        tile: lists::none32(),
+        tile: Smalls::none(),
         tensor: no_tensor(),
         padding: Padding::Absent,
     }
@@ -180,15 +179,15 @@ fn list_after(inner: &[u8], prefix: &[u8], at: usize) -> Closed
     }
     let start = at + prefix.len();
     match lexis::find(&inner[start..], b"]") {
-        Found::At(n) => Closed::Between(start, start + n),
-        Found::Nowhere => Closed::Unclosed,
+        Some(n) => Closed::Between(start, start + n),
+        None => Closed::Unclosed,
     }
 }
 
 // The list after `prefix`, or `own` where it is absent or never closed.
-fn parse_i32_list_after(inner: &[u8], prefix: &[u8], at: usize, own: List32) -> List32
+fn parse_i32_list_after(inner: &[u8], prefix: &[u8], at: usize, own: Smalls) -> Smalls
     requires { Spot prefix.now inner.now at }
-    ensures { list32 result ≡ list_laid (list32 own) (list_after prefix.now inner.now) }
+    ensures { list result ≡ list_laid (list own) (list_after prefix.now inner.now) }
 {
     match list_after(inner, prefix, at) {
         Closed::Between(a, e) => lists::parse_smalls(&inner[a..e], b',', 0),
@@ -198,9 +197,9 @@ fn parse_i32_list_after(inner: &[u8], prefix: &[u8], at: usize, own: List32) -> 
 }
 
 // `sparse_dim=` runs to `,`, `>` or the end; unreadable or absent is 0. `at` is its first place.
-fn parse_sparse(inner: &[u8], at: usize) -> List32
+fn parse_sparse(inner: &[u8], at: usize) -> Smalls
     requires { Spot (bytes "sparse_dim=") inner.now at }
-    ensures { list32 result ≡ laid 8 (sparse_by (cut (bytes "sparse_dim=") inner.now)) }
+    ensures { list result ≡ laid 8 (sparse_by (cut (bytes "sparse_dim=") inner.now)) }
 {
     if inner.len() <= at {
         return lists::zero();
@@ -215,13 +214,13 @@ fn parse_sparse(inner: &[u8], at: usize) -> List32
 fn view_of(
     kind: Kind,
     v: View,
-    map: List32,
-    traversal: List32,
-    sparse: List32,
+    map: Smalls,
+    traversal: Smalls,
+    sparse: Smalls,
     marked: bool,
 ) -> Reading
-    requires { Sound (list64 v.tensor.shape) (list64 v.tensor.strides) (list32 v.tile) (list32 map) (list32 traversal) (list32 sparse) }
-    ensures { result ≡ answered marked (Some (built kind v.tensor.element false (list64 v.tensor.shape) (list64 v.tensor.strides) (list32 v.tile) (list32 map) (list32 traversal) (list32 sparse) v.padding)) }
+    requires { Sound (list v.tensor.shape) (list v.tensor.strides) (list v.tile) (list map) (list traversal) (list sparse) }
+    ensures { result ≡ answered marked (Some (built kind v.tensor.element false (list v.tensor.shape) (list v.tensor.strides) (list v.tile) (list map) (list traversal) (list sparse) v.padding)) }
 {
     let t = v.tensor;
     let element = t.element;
@@ -250,8 +249,8 @@ pub(crate) fn parse_partition_view(inner: &[u8], k: Places, marked: bool) -> Rea
                 Kind::Partition,
                 v,
                 lists::parse_smalls(&inner[a..e], b',', 0),
-                lists::none32(),
-                lists::none32(),
+                Smalls::none(),
+                Smalls::none(),
                 marked,
             )
         }
@@ -260,8 +259,8 @@ pub(crate) fn parse_partition_view(inner: &[u8], k: Places, marked: bool) -> Rea
             Kind::Partition,
             v,
             lists::count_up(tile.row.len),
-            lists::none32(),
-            lists::none32(),
+            Smalls::none(),
+            Smalls::none(),
             marked,
         ),
     }
@@ -278,8 +277,8 @@ pub(crate) fn parse_gather_scatter_view(inner: &[u8], k: Places, marked: bool) -
     view_of(
         Kind::GatherScatter,
         v,
-        lists::none32(),
-        lists::none32(),
+        Smalls::none(),
+        Smalls::none(),
         parse_sparse(inner, k.sparse),
         marked,
     )
@@ -302,5 +301,5 @@ pub(crate) fn parse_strided_view(inner: &[u8], k: Places, marked: bool) -> Readi
         k.traversal,
         lists::ones(n),
     );
-    view_of(Kind::Strided, v, map, traversal, lists::none32(), marked)
+    view_of(Kind::Strided, v, map, traversal, Smalls::none(), marked)
 }

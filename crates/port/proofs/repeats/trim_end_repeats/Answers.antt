@@ -1,32 +1,13 @@
--- `trim_end_repeats` meets its contract: behind e stands only what is dropped.
-use mathlib.Core.Path.{sym, ap, ◌∙◌}
-use borrow.Author.Rules.{rules}
-use lib.Seq.{take-length, length-take-le}
+-- `trim_end_repeats` meets its contract: what the library strips is dropped; what it leaves stays.
+use Rattle.std.proofs.Common.{rules, arith, sym, ap, ◌∙◌, ◌≤◌, length}
 use Rattle.meaning.specs.Parts.{less_repeats}
 use Rattle.port.proofs.Repeating as L
 use Rattle.port.proofs.repeats.trim_end_repeats.Goals as goal
 
-pub loop-e-init : goal.loop-e-init
-loop-e-init c = let a = c.args in (search rules, ap (less_repeats a.what.now) (sym (take-length a.s.now)))
-
-pub slice_bounds-result-end : goal.slice_bounds-result-end
-slice_bounds-result-end c = sym (length-take-le _ _ (search rules))
-
-pub returns-then-not-begins : goal.returns-then-not-begins
-returns-then-not-begins c = let l = c.loop-e in let a = c.args in
-    sym (l.invariant.1 ∙ L.end_stop a.what.now a.s.now l.e (search rules) (search rules) (search rules)
-    (sym c.begins.ensures ∙ c.if-not-begins.true))
-
-pub loop-e-preserved : goal.loop-e-preserved
-loop-e-preserved c = let l = c.loop-e in let a = c.args in (
-  search rules,
-  l.invariant.1 ∙ L.end_step a.what.now a.s.now l.e (search rules) (search rules) (search rules)
-      (sym c.begins.ensures ∙ c.if-not-begins.false),
-)
-
-pub slice_bounds-result-end-2 : goal.slice_bounds-result-end-2
-slice_bounds-result-end-2 c = sym (length-take-le _ _ (search rules))
+pub loop-before-preserved : goal.loop-before-preserved
+loop-before-preserved c = let l = c.loop-before in let w = c.args.what.now in let s = c.in-Some.ensures.cases in
+    let k : length w ≤ length l.rest.now = omega arith in
+    l.invariant ∙ L.strip_goes w c.requires l.rest.now k s.0 ∙ ap (less_repeats w) (sym s.1)
 
 pub returns : goal.returns
-returns c = let l = c.loop-e in let a = c.args in
-    sym (l.invariant.1 ∙ L.end_short a.what.now a.s.now l.e (search rules) (search rules))
+returns c = let l = c.loop-before in sym (l.invariant ∙ L.strip_stays c.args.what.now c.requires l.rest.now c.in_default.ensures.cases)

@@ -3,7 +3,7 @@ use Rattle.port.proofs.Tiling as L
 use Rattle.port.proofs.tile.pointer_shape.Goals as goal
 
 pub returns-then-b-eq0 : goal.returns-then-b-eq0
-returns-then-b-eq0 c = L.shape_none c.args.before.now _ _ c.trim.ensures c.trim_end_repeats-b.ensures c.if-b-eq0.true c.none64.ensures
+returns-then-b-eq0 c = L.shape_none c.args.before.now _ _ c.trim.ensures c.trim_end_repeats-b.ensures c.if-b-eq0.true c.none.ensures
 
 pub returns : goal.returns
 returns c = L.shape_some c.args.before.now _ _ c.trim.ensures c.trim_end_repeats-b.ensures

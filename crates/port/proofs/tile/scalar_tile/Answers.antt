@@ -10,14 +10,14 @@ use Rattle.port.proofs.Tiling as L
 use Rattle.port.proofs.tile.scalar_tile.Goals as goal
 
 pub simple-requires : goal.simple-requires
-simple-requires c = (M.sound_list (dimensions (C.sizes c.args.inner.now)) c.parse_front-f.ensures.dims, M.sound_list unused c.none64.ensures)
+simple-requires c = (M.sound_list (dimensions (C.sizes c.args.inner.now)) c.parse_front-f.ensures.dims, M.sound_list unused c.none.ensures)
 
-pub returns-in-Is : goal.returns-in-Is
-returns-in-Is c = let a = c.args in
+pub returns-in-Some : goal.returns-in-Some
+returns-in-Some c = let a = c.args in
     let s = a.inner.now in
-    c.simple.ensures ∙ ap (answered a.marked) (L.tile_some false (dimensions (C.sizes s)) refl (C.named s c.parse_front-f.ensures c.parse_scalar.ensures c.in-Is.is)
-    c.parse_front-f.ensures.dims c.none64.ensures)
+    c.simple.ensures ∙ ap (answered a.marked) (L.tile_some false (dimensions (C.sizes s)) refl (C.named s c.parse_front-f.ensures c.parse_scalar.ensures c.in-Some.is)
+    c.parse_front-f.ensures.dims c.none.ensures)
 
-pub returns-in-Unknown : goal.returns-in-Unknown
-returns-in-Unknown c = let a = c.args in let s = a.inner.now in
-    c.refuse.ensures ∙ ap (answered a.marked) (L.tile_none false (dimensions (C.sizes s)) refl (C.named s c.parse_front-f.ensures c.parse_scalar.ensures c.in-Unknown.is))
+pub returns-in-None : goal.returns-in-None
+returns-in-None c = let a = c.args in let s = a.inner.now in
+    c.refuse.ensures ∙ ap (answered a.marked) (L.tile_none false (dimensions (C.sizes s)) refl (C.named s c.parse_front-f.ensures c.parse_scalar.ensures c.in-None.is))

@@ -2,7 +2,7 @@
 use mathlib.Core.Path.{sym, ap, ◌∙◌}
 use native.Mathlib.Omega.{arith}
 use borrow.Author.Rules.{rules}
-use Rattle.lexis.specs.Text.{bytes, spot}
+use Rattle.lexis.specs.Text.{bytes}
 use Rattle.port.proofs.Clauses as L
 use Rattle.port.proofs.Placing as P
 use Rattle.port.proofs.views.list_after.Goals as goal
@@ -20,10 +20,10 @@ pub slice_bounds-find-start : goal.slice_bounds-find-start
 slice_bounds-find-start c = omega (arith, P.fits c.requires (search rules))
 
 pub overflow_add-result : goal.overflow_add-result
-overflow_add-result c = omega (arith, L.next_within c.args.prefix.now c.args.inner.now _ (P.placed_at c.requires (search rules)) (bytes "]") _ (sym c.find.ensures ∙ ap spot c.in-At.is))
+overflow_add-result c = omega (arith, L.next_within c.args.prefix.now c.args.inner.now _ (P.placed_at c.requires (search rules)) (bytes "]") _ (sym c.find.ensures ∙ c.in-Some.is))
 
-pub returns-in-At : goal.returns-in-At
-returns-in-At c = L.list_closed c.args.prefix.now c.args.inner.now _ (P.placed_at c.requires (search rules)) _ (sym c.find.ensures ∙ ap spot c.in-At.is)
+pub returns-in-Some : goal.returns-in-Some
+returns-in-Some c = L.list_closed c.args.prefix.now c.args.inner.now _ (P.placed_at c.requires (search rules)) _ (sym c.find.ensures ∙ c.in-Some.is)
 
-pub returns-in-Nowhere : goal.returns-in-Nowhere
-returns-in-Nowhere c = L.list_unclosed c.args.prefix.now c.args.inner.now _ (P.placed_at c.requires (search rules)) (sym c.find.ensures ∙ ap spot c.in-Nowhere.is)
+pub returns-in-None : goal.returns-in-None
+returns-in-None c = L.list_unclosed c.args.prefix.now c.args.inner.now _ (P.placed_at c.requires (search rules)) (sym c.find.ensures ∙ c.in-None.is)

@@ -22,12 +22,12 @@ view_of-requires c = let s = c.args.inner.now in
     let v = S.sound s c.parse_view-v.ensures (not-false _ c.if-not-v.false) in record {
       shape = v.0;
       strides = v.1;
-      map = M.sound_list unused c.none32.ensures;
-      traversal = M.sound_list unused c.none32-2.ensures;
+      map = M.sound_list unused c.none.ensures;
+      traversal = M.sound_list unused c.none-2.ensures;
       sparse = M.sound_one (sparse_by (cut (bytes "sparse_dim=") s)) c.parse_sparse.ensures (L.one_sparse (cut (bytes "sparse_dim=") s));
     }
 
 pub returns : goal.returns
 returns c = let a = c.args in
     c.view_of.ensures ∙ ap (answered a.marked) (S.gather_is a.inner.now c.parse_view-v.ensures (not-false _ c.if-not-v.false)
-    refl c.none32.ensures c.none32-2.ensures c.parse_sparse.ensures)
+    refl c.none.ensures c.none-2.ensures c.parse_sparse.ensures)

@@ -3,7 +3,7 @@ use Prim.Native.Nat.{◌-◌}
 use mathlib.Core.Path.{◌∙◌}
 use native.Mathlib.Omega.{arith}
 use lib.ListN.{take, drop}
-use Rattle.lists.specs.Laid.{list32}
+use Rattle.lists.specs.Laid.{list}
 use Rattle.port.proofs.Clauses as L
 use Rattle.port.proofs.views.parse_i32_list_after.Goals as goal
 
@@ -18,4 +18,4 @@ slice_bounds-parse_smalls-end c = let g = L.told c.list_after.ensures c.in-Betwe
 
 pub returns-in-Between : goal.returns-in-Between
 returns-in-Between c = let n = c.in-Between in let s = c.args.inner.now in
-    L.entries_are (take (n.e - n.a) (drop n.a s)) c.parse_smalls.ensures ∙ L.laid_as c.list_after.ensures n.is (list32 c.args.own)
+    L.entries_are (take (n.e - n.a) (drop n.a s)) c.parse_smalls.ensures ∙ L.laid_as c.list_after.ensures n.is (list c.args.own)

@@ -36,8 +36,8 @@ view_of-requires-in-Absent c = let v = S.sound c.args.inner.now c.parse_view-v.e
   shape = v.0;
   strides = v.1;
   map = M.sound_list (filled (count_up 0 c.parse_view-v.result.tile.row.len)) c.count_up.ensures;
-  traversal = M.sound_list unused c.none32-in-Absent.ensures;
-  sparse = M.sound_one unused c.none32-in-Absent-2.ensures (omega arith);
+  traversal = M.sound_list unused c.none-in-Absent.ensures;
+  sparse = M.sound_one unused c.none-in-Absent-2.ensures (omega arith);
 }
 
 pub returns-in-Unclosed : goal.returns-in-Unclosed
@@ -48,7 +48,7 @@ returns-in-Unclosed c = let a = c.args in
 pub returns-in-Absent : goal.returns-in-Absent
 returns-in-Absent c = let a = c.args in
     c.view_of-in-Absent.ensures ∙ ap (answered a.marked) (S.partition_absent a.inner.now c.parse_view-v.ensures (not-false _ c.if-not-v.false)
-    refl c.none32-in-Absent.ensures c.none32-in-Absent-2.ensures
+    refl c.none-in-Absent.ensures c.none-in-Absent-2.ensures
     (L.told c.list_after.ensures c.in-Absent.is) c.count_up.ensures)
 
 pub view_of-requires : goal.view_of-requires
@@ -57,12 +57,12 @@ view_of-requires c = let s = c.args.inner.now in let n = c.in-Between in
       shape = v.0;
       strides = v.1;
       map = M.sound_list (smalls (pos 0) (split 44 (take (n.e - n.a) (drop n.a s)))) c.parse_smalls.ensures;
-      traversal = M.sound_list unused c.none32.ensures;
-      sparse = M.sound_one unused c.none32-in-Between.ensures (omega arith);
+      traversal = M.sound_list unused c.none.ensures;
+      sparse = M.sound_one unused c.none-in-Between.ensures (omega arith);
     }
 
 pub returns-in-Between : goal.returns-in-Between
 returns-in-Between c = let a = c.args in let n = c.in-Between in
     c.view_of.ensures ∙ ap (answered a.marked) (S.partition_listed a.inner.now c.parse_view-v.ensures (not-false _ c.if-not-v.false)
-    refl c.none32.ensures c.none32-in-Between.ensures
+    refl c.none.ensures c.none-in-Between.ensures
     n.a n.e (L.told c.list_after.ensures n.is) c.parse_smalls.ensures)

@@ -7,7 +7,7 @@ use lib.IntN.{pos}
 use lib.ListN.{replicate}
 use Rattle.meaning.specs.Found.{unused, filled}
 use Rattle.meaning.specs.Views.{list_after, count_up}
-use Rattle.lists.specs.Laid.{list32}
+use Rattle.lists.specs.Laid.{list}
 use Rattle.port.specs.Carried.{answered}
 use Rattle.port.proofs.Clauses as L
 use Rattle.port.proofs.Making as M
@@ -26,12 +26,12 @@ view_of-requires c = let s = c.args.inner.now in
     let v = S.sound s c.parse_view-v.ensures (not-false _ c.if-not-v.false) in record {
       shape = v.0;
       strides = v.1;
-      map = L.sound_or (list32 c.count_up.result) (list_after (bytes "dim_map=[") s) (M.sound_list (filled (count_up 0 c.parse_view-v.result.tile.row.len)) c.count_up.ensures) c.parse_i32_list_after-map.ensures;
-      traversal = L.sound_or (list32 c.ones.result) (list_after (bytes "traversal_strides=[") s) (M.sound_list (filled (replicate c.parse_view-v.result.tile.row.len (pos 1))) c.ones.ensures) c.parse_i32_list_after-traversal.ensures;
-      sparse = M.sound_one unused c.none32.ensures (omega arith);
+      map = L.sound_or (list c.count_up.result) (list_after (bytes "dim_map=[") s) (M.sound_list (filled (count_up 0 c.parse_view-v.result.tile.row.len)) c.count_up.ensures) c.parse_i32_list_after-map.ensures;
+      traversal = L.sound_or (list c.ones.result) (list_after (bytes "traversal_strides=[") s) (M.sound_list (filled (replicate c.parse_view-v.result.tile.row.len (pos 1))) c.ones.ensures) c.parse_i32_list_after-traversal.ensures;
+      sparse = M.sound_one unused c.none.ensures (omega arith);
     }
 
 pub returns : goal.returns
 returns c = let a = c.args in
     c.view_of.ensures ∙ ap (answered a.marked) (S.strided_is a.inner.now c.parse_view-v.ensures (not-false _ c.if-not-v.false) refl
-    c.count_up.ensures c.parse_i32_list_after-map.ensures c.ones.ensures c.parse_i32_list_after-traversal.ensures c.none32.ensures)
+    c.count_up.ensures c.parse_i32_list_after-map.ensures c.ones.ensures c.parse_i32_list_after-traversal.ensures c.none.ensures)

@@ -2,7 +2,7 @@
 use mathlib.Core.Path.{sym, ap, ◌∙◌}
 use native.Mathlib.Omega.{arith}
 use borrow.Author.Rules.{rules}
-use Rattle.lexis.specs.Text.{bytes, spot}
+use Rattle.lexis.specs.Text.{bytes}
 use Rattle.port.proofs.Clauses as L
 use Rattle.port.proofs.Placing as P
 use Rattle.port.proofs.Sights as S
@@ -21,19 +21,19 @@ pub slice_bounds-find-start : goal.slice_bounds-find-start
 slice_bounds-find-start c = omega (arith, P.fits c.requires (search rules))
 
 pub slice_bounds-tile_entries-count : goal.slice_bounds-tile_entries-count
-slice_bounds-tile_entries-count c = omega (arith, L.next_within (bytes "tile=(") c.args.inner.now _ (P.placed_at c.requires (search rules)) (bytes ")") _ (sym c.find.ensures ∙ ap spot c.in-At.is))
+slice_bounds-tile_entries-count c = omega (arith, L.next_within (bytes "tile=(") c.args.inner.now _ (P.placed_at c.requires (search rules)) (bytes ")") _ (sym c.find.ensures ∙ c.in-Some.is))
 
 pub slice_bounds-tile_entries-end : goal.slice_bounds-tile_entries-end
-slice_bounds-tile_entries-end c = omega (arith, L.next_within (bytes "tile=(") c.args.inner.now _ (P.placed_at c.requires (search rules)) (bytes ")") _ (sym c.find.ensures ∙ ap spot c.in-At.is))
+slice_bounds-tile_entries-end c = omega (arith, L.next_within (bytes "tile=(") c.args.inner.now _ (P.placed_at c.requires (search rules)) (bytes ")") _ (sym c.find.ensures ∙ c.in-Some.is))
 
 pub overflow_add-result : goal.overflow_add-result
-overflow_add-result c = omega (arith, L.next_within (bytes "tile=(") c.args.inner.now _ (P.placed_at c.requires (search rules)) (bytes ")") _ (sym c.find.ensures ∙ ap spot c.in-At.is))
+overflow_add-result c = omega (arith, L.next_within (bytes "tile=(") c.args.inner.now _ (P.placed_at c.requires (search rules)) (bytes ")") _ (sym c.find.ensures ∙ c.in-Some.is))
 
-pub returns-in-At : goal.returns-in-At
-returns-in-At c = S.tile_closed c.args.inner.now _ (P.placed_at c.requires (search rules)) _ (sym c.find.ensures ∙ ap spot c.in-At.is) _ c.tile_entries.ensures
+pub returns-in-Some : goal.returns-in-Some
+returns-in-Some c = S.tile_closed c.args.inner.now _ (P.placed_at c.requires (search rules)) _ (sym c.find.ensures ∙ c.in-Some.is) _ c.tile_entries.ensures
 
-pub returns-in-Nowhere : goal.returns-in-Nowhere
-returns-in-Nowhere c = S.tile_unclosed c.args.inner.now _ (P.placed_at c.requires (search rules)) (sym c.find.ensures ∙ ap spot c.in-Nowhere.is) _ c.no_tile-in-Nowhere.ensures
+pub returns-in-None : goal.returns-in-None
+returns-in-None c = S.tile_unclosed c.args.inner.now _ (P.placed_at c.requires (search rules)) (sym c.find.ensures ∙ c.in-None.is) _ c.no_tile-in-None.ensures
 
 pub overflow_add-end : goal.overflow_add-end
-overflow_add-end c = omega (arith, L.next_within (bytes "tile=(") c.args.inner.now _ (P.placed_at c.requires (search rules)) (bytes ")") _ (sym c.find.ensures ∙ ap spot c.in-At.is))
+overflow_add-end c = omega (arith, L.next_within (bytes "tile=(") c.args.inner.now _ (P.placed_at c.requires (search rules)) (bytes ")") _ (sym c.find.ensures ∙ c.in-Some.is))
