@@ -1,6 +1,7 @@
 -- The piece that reads a word of a table: as far as any word goes. A computed test of the table shows that each word is read.
-use Rattle.std.specs.Prelude.{ℕ, Bool, true, false, cond, ◌&&◌, not, List, [], ◌∷◌, ◌++◌, ◌⊎◌, ◌≡◌, refl, T, eqb, Option, None, Some}
+use Rattle.std.specs.Prelude.{ℕ, Bool, true, false, cond, ◌&&◌, not, List, [], ◌∷◌, ◌++◌, ◌⊎◌, ◌≡◌, refl, T, eqb}
 use Rattle.std.proofs.Common.{arith, inl, inr, subst, sym, ap, ◌∙◌, eqb→eq, T_not}
+use Rattle.std.proofs.Math.Option.{Option, none, some}
 use Rattle.std.proofs.Math.Dec.{eqb_refl}
 use Rattle.grammar.specs.Tests.{and_left, and_right, every}
 use Rattle.grammar.specs.Piece.{member, stops, heads, Answer, got, stuck, Alike, Good, Some, Piece}
@@ -24,16 +25,16 @@ advance c (e ∷ es) = rest_of c e.value e.word ++ advance c es
 
 -- the value of the first word that is at its end
 abbrev pub or_done : {A : Type 0} → A → Option A → List ℕ → Option A
-or_done a o [] = Some a
+or_done a o [] = some a
 or_done a o (x ∷ w) = o
 
 abbrev pub done : {A : Type 0} → List (Entry A) → Option A
-done [] = None
+done [] = none
 done (e ∷ es) = or_done e.value (done es) e.word
 
 abbrev pub settle : {A : Type 0} → Option A → List ℕ → Answer A
-settle None r = stuck r
-settle (Some a) r = got a r
+settle none r = stuck r
+settle (some a) r = got a r
 
 abbrev pub pick : {A : Type 0} → List ℕ → List (Entry A) → Answer A
 pick [] es = settle (done es) []
@@ -74,11 +75,11 @@ advance_in {A} c a t (e ∷ es) i = by e.word (advance_in c a t es) i
         on true = inr (f p)
         on false = f p
 
-done_out : {A : Type 0} (a : A) (es : List (Entry A)) → done es ≡ Some a → Among es a []
+done_out : {A : Type 0} (a : A) (es : List (Entry A)) → done es ≡ some a → Among es a []
 done_out a [] e = let z : ◌≡◌ {A = ℕ} 0 1 = cc in absurd (omega arith)
 done_out a (x ∷ es) e = by x.word (done_out a es) e
   where
-    by : (w : List ℕ) → (done es ≡ Some a → Among es a []) → or_done x.value (done es) w ≡ Some a → ((w ≡ []) × (x.value ≡ a)) ⊎ Among es a []
+    by : (w : List ℕ) → (done es ≡ some a → Among es a []) → or_done x.value (done es) w ≡ some a → ((w ≡ []) × (x.value ≡ a)) ⊎ Among es a []
     by [] f e = inl (refl, cc)
     by (y ∷ w) f e = inr (f e)
 
@@ -90,8 +91,8 @@ module _ {A : Type 0} where
   -- at the end of what any word has
   ends : (es : List (Entry A)) → Some (Among es) → (r : List ℕ) → ((x : List ℕ) → Alike r x → pick x es ≡ settle (done es) x) →
       (o : Option A) → done es ≡ o → Good (Among es) (λ x. pick x es) r (settle o r)
-  ends es s r l None e = record { text = []; split = refl; value = s.value; more = s.text; is = s.is; local = λ x al. l x al ∙ ap (λ (z : Option A). settle z x) e }
-  ends es s r l (Some a) e = record { text = []; is = done_out a es e; split = refl; local = λ x al. l x al ∙ ap (λ (z : Option A). settle z x) e }
+  ends es s r l none e = record { text = []; split = refl; value = s.value; more = s.text; is = s.is; local = λ x al. l x al ∙ ap (λ (z : Option A). settle z x) e }
+  ends es s r l (some a) e = record { text = []; is = done_out a es e; split = refl; local = λ x al. l x al ∙ ap (λ (z : Option A). settle z x) e }
 
   -- one byte more in front
   longer : (es fs : List (Entry A)) (c : ℕ) (t : List ℕ) → ((x : List ℕ) → pick (c ∷ x) es ≡ pick x fs) → ((a : A) (u : List ℕ) → Among fs a u → Among es a (c ∷ u)) →
@@ -145,12 +146,12 @@ module _ {A : Type 0} (X : List ℕ) (a : A) where
           on true f = (f tt, s)
           on false f = s
 
-  done_in : (es : List (Entry A)) → Among es a [] → Sole [] es → done es ≡ Some a
+  done_in : (es : List (Entry A)) → Among es a [] → Sole [] es → done es ≡ some a
   done_in [] i s = absurd i
   done_in (e ∷ es) i s = by e.word i s.0 (λ j. done_in es j s.1)
     where
-      by : (w : List ℕ) → ((w ≡ []) × (e.value ≡ a)) ⊎ Among es a [] → Lone [] w e.value → (Among es a [] → done es ≡ Some a) → or_done e.value (done es) w ≡ Some a
-      by [] i l f = ap Some l
+      by : (w : List ℕ) → ((w ≡ []) × (e.value ≡ a)) ⊎ Among es a [] → Lone [] w e.value → (Among es a [] → done es ≡ some a) → or_done e.value (done es) w ≡ some a
+      by [] i l f = ap some l
       by (x ∷ w) (inl p) l f = let q = p.0 in let z : ◌≡◌ {A = ℕ} 0 1 = cc in absurd (omega arith)
       by (x ∷ w) (inr p) l f = f p
 
@@ -260,5 +261,5 @@ module _ {A : Type 0} (E : A → List ℕ) (F : List ℕ) (es : List (Entry A)) 
         good = λ t. pick_good t es (any es a1);
         complete = λ a u r i s. pick_complete (E a) a u r es i (sole es a u a4 i) s;
         leads = λ a u i. among_every (λ e. heads false F e.word) es a u a3 i;
-        Some = any es a1;
+        some = any es a1;
       }
