@@ -26,7 +26,6 @@ use Rattle.grammar.specs.Join.{mapped}
 use Rattle.grammar.proofs.Whole as G
 use Rattle.grammar.proofs.Answer.{judge, answer, answer_ascii, answer_right}
 use Rattle.grammar.proofs.Printed.{strict_low}
-use Rattle.strict.specs.Cursor.{valued}
 use Rattle.strict.specs.Lists.{Row, nothing, pushes}
 use Rattle.strict.specs.Whole as W
 use Rattle.strict.specs.Plain as P
@@ -124,23 +123,16 @@ module _ (e : W.Entire) where
       → P.record_of (made k z p) ≡ P.record_of (P.said e)
   laid_is f g h = λ i. P.record_of (made (f i) (g i) (h i))
 
--- up to its end
+-- up to its end, or stuck
 module _ (s : Text) (e : W.Entire) (d : ℕ) where
-  pub other : (d ≡ length s → ⊥) → refused 8 NotStrict 0 ≡ P.judged (mapped P.said (valued s e d))
-  other n = by (leb d (length s)) (leb-true d (length s))
-    where
-      by : (k : Bool) → (k ≡ true → d ≤ length s) → refused 8 NotStrict 0 ≡ P.judged (mapped P.said (cond k (got e (drop d s)) (stuck (drop (d - (length s + 1)) s))))
-      by true f = let h : d < length s = (let g = f refl in omega arith) in rw (view s d h)
-      by false f = refl
+  pub other : d ≤ length s → (d ≡ length s → ⊥) → refused 8 NotStrict 0 ≡ P.judged (mapped P.said (got e (drop d s)))
+  other h n = let k : d < length s = omega arith in rw (view s d k)
 
-  le_of : d ≡ length s → length s ≤ d
-  le_of k = omega arith
+  pub too_many : d ≡ length s → P.small (P.said e) ≡ false → refused 8 TooMany 0 ≡ P.judged (mapped P.said (got e (drop d s)))
+  too_many k n = let h : length s ≤ d = omega arith in rw (drop_of_length-le s h, n)
 
-  pub too_many : d ≡ length s → P.small (P.said e) ≡ false → refused 8 TooMany 0 ≡ P.judged (mapped P.said (valued s e d))
-  too_many k n = rw (le-leb d (length s) (omega arith), drop_of_length-le s (le_of k), n)
-
-  pub whole : d ≡ length s → P.small (P.said e) ≡ true → P.accepted (P.said e) ≡ P.judged (mapped P.said (valued s e d))
-  whole k n = rw (le-leb d (length s) (omega arith), drop_of_length-le s (le_of k), n)
+  pub whole : d ≡ length s → P.small (P.said e) ≡ true → P.accepted (P.said e) ≡ P.judged (mapped P.said (got e (drop d s)))
+  whole k n = let h : length s ≤ d = omega arith in rw (drop_of_length-le s h, n)
 
 -- ── the answer ──
 

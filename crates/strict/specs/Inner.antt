@@ -129,4 +129,4 @@ unfoldable pub tensor : List ℕ → Answer Tensed
 tensor t = after (λ l r. after (λ k x. mapped (tens_of l k) (rest l.len x)) (choose names r)) (shape t)
 
 abbrev pub tensed : List ℤ → List ℤ → Tensor → Tensed
-tensed l m c = tens_of (row l c.rank) c.word (record { strides = row m c.len; marked = c.marked })
+tensed l m c = tens_of (row l c.rank) c.word (rested m c.rest)

@@ -7,9 +7,10 @@ use Rattle.strict.specs.Cursor.{numeral}
 use Rattle.grammar.specs.Table.{Entry, ◌↝◌}
 use Rattle.strict.specs.Words.{choose}
 use Rattle.strict.specs.Rows.{list32}
-use Rattle.strict.specs.Lists.{Row, nothing, pushes}
+use Rattle.strict.specs.Lists.{Row, row, nothing, pushes}
 use Rattle.strict.specs.Inner.{Tensed, tensor, tensed}
 use Rattle.strict.specs.declared.view.Sight.{Sight}
+use Rattle.strict.specs.declared.view.Last.{Last}
 
 -- ── tables ──
 abbrev pub pads : List ℕ
@@ -102,6 +103,9 @@ pub record Closed : Type 0 where
 
 abbrev pub closed : Row → ℤ → Closed
 closed m z = record { map = m; sparse = z }
+
+abbrev pub enclosed : List ℤ → Last → Closed
+enclosed m e = closed (row m e.map) e.sparse
 
 unfoldable pub ending : Bool → List ℕ → Answer Closed
 ending sparse t = cond sparse (mapped (closed nothing) (sparse_part t)) (mapped (λ m. closed m (pos 0)) (map_part t))

@@ -137,8 +137,8 @@ entire l m x y z w = record {
 }
 
 -- the code's types that are no view
-abbrev pub plainly : Kind → Bool → ℕ → Bool → ℕ → ℕ → ℕ → Whole
-plainly k p w m n o e = record {
+abbrev pub plainly : Kind → Bool → ℕ → Bool → ℕ → ℕ → Whole
+plainly k p w m n o = record {
   kind = k;
   pointer = p;
   word = w;
@@ -151,5 +151,4 @@ plainly k p w m n o e = record {
   sparse = pos 0;
   padded = false;
   pad = 0;
-  end = e;
 }

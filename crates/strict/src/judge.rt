@@ -114,7 +114,7 @@ pub(crate) fn judge(text: &[u8]) -> Reading
     let mut tile = [0i32; CAP];
     let mut map = [0i32; CAP];
     let mut walk = [0i32; CAP];
-    let w = read_whole(
+    let read = read_whole(
         text,
         &mut shape,
         &mut strides,
@@ -122,9 +122,13 @@ pub(crate) fn judge(text: &[u8]) -> Reading
         &mut map,
         &mut walk,
     );
-    if w.end != text.len() {
+    let Ok(read) = read else {
+        return refuse(Refusal::NotStrict, 0);
+    };
+    if read.end != text.len() {
         return refuse(Refusal::NotStrict, 0);
     }
+    let w = read.value;
     if !within(w) {
         return refuse(Refusal::TooMany, 0);
     }

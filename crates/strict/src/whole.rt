@@ -1,10 +1,10 @@
 // A whole strict form: the first word tells the kind and what follows.
-ghost use Rattle.std.specs.Prelude.{◌≡◌, [], ltb, length, ◌≤◌};
+ghost use Rattle.std.specs.Prelude.{◌≡◌, [], ltb, drop, length, ◌≤◌};
 ghost use Rattle.meaning.specs.Found.{padded};
-ghost use Rattle.strict.specs.Cursor.{Told, place};
-ghost use Rattle.strict.specs.Words.{next};
+ghost use Rattle.strict.specs.Cursor.{Told};
 ghost use Rattle.strict.specs.Whole.{plainly, kind_by, entire, from_partition, whole};
 
+use super::cursor::{Read, Stuck};
 use super::heads::read_head;
 use super::inner::{read_pointee, read_tensor, read_tile};
 use super::list::read_list32;
@@ -27,20 +27,11 @@ pub(crate) struct Whole {
     pub(crate) sparse: i32,
     pub(crate) padded: bool,
     pub(crate) pad: usize,
-    pub(crate) end: usize,
 }
 
 // A type that is no view.
-fn made(
-    kind: Kind,
-    pointer: bool,
-    word: usize,
-    marked: bool,
-    shape: usize,
-    strides: usize,
-    end: usize,
-) -> Whole
-    ensures { result ≡ plainly kind pointer word marked shape strides end }
+fn made(kind: Kind, pointer: bool, word: usize, marked: bool, shape: usize, strides: usize) -> Whole
+    ensures { result ≡ plainly kind pointer word marked shape strides }
 {
     Whole {
         kind,
@@ -55,7 +46,6 @@ fn made(
         sparse: 0,
         padded: false,
         pad: 0,
-        end,
     }
 }
 
@@ -75,49 +65,50 @@ fn view_kind(k: usize) -> Kind
 // After the first word `k`: a partition view, a gather-scatter view or a strided view.
 fn read_view(
     s: &[u8],
-    from: usize,
+    at: usize,
     k: usize,
     shape: &mut [i64],
     strides: &mut [i64],
     tile: &mut [i32],
     map: &mut [i32],
     walk: &mut [i32],
-) -> Whole
-    requires from_in_bounds { place s.now from ≤ length s.now }
+) -> Result<Read<Whole>, Stuck>
+    requires at_in_bounds { at ≤ length s.now }
     requires shape_value { shape.old ≡ padded 8 [] }
     requires strides_value { strides.old ≡ padded 8 [] }
     requires tile_value { tile.old ≡ padded 8 [] }
     requires map_value { map.old ≡ padded 8 [] }
     requires walk_value { walk.old ≡ padded 8 [] }
-    ensures { Told s.now (place s.now from) (next s.now (from_partition k) from) (entire shape.new strides.new tile.new map.new walk.new result) result.end }
+    ensures { Told s.now at (from_partition k (drop at s.now)) (entire shape.new strides.new tile.new map.new walk.new) result }
 {
     let bare = k < 34;
-    let t = read_list32(s, from, true, tile);
-    let w = read_walk(s, t.end, bare, walk);
-    let m = read_mid(s, w.end, bare);
-    let sight = read_sight(s, m.end, m.word, shape, strides);
-    let tensor = sight.tensor;
-    let e = read_last(s, tensor.end, bare & !(k < 32), map);
+    let t = read_list32(s, at, true, tile)?;
+    let w = read_walk(s, t.end, bare, walk)?;
+    let m = read_mid(s, w.end, bare)?;
+    let v = read_sight(s, m.end, m.value, shape, strides)?;
+    let e = read_last(s, v.end, bare & !(k < 32), map)?;
     let kind = view_kind(k);
-    let sparse = e.sparse;
-    Whole {
-        kind,
-        pointer: false,
-        word: tensor.word,
-        marked: tensor.marked,
-        shape: tensor.rank,
-        strides: tensor.len,
-        tile: t.len,
-        map: e.map,
-        walk: w.len,
-        sparse,
-        padded: sight.padded,
-        pad: sight.pad,
+    let tensor = v.value.tensor;
+    Ok(Read {
+        value: Whole {
+            kind,
+            pointer: false,
+            word: tensor.word,
+            marked: tensor.rest.marked,
+            shape: tensor.rank,
+            strides: tensor.rest.len,
+            tile: t.value,
+            map: e.value.map,
+            walk: w.value,
+            sparse: e.value.sparse,
+            padded: v.value.padded,
+            pad: v.value.pad,
+        },
         end: e.end,
-    }
+    })
 }
 
-// A whole strict form from the start of the text, with the place where it ends or is stuck. Its lists are laid into five blank ones.
+// A whole strict form from the start of the text. Its lists are laid into five blank ones.
 pub(crate) fn read_whole(
     s: &[u8],
     shape: &mut [i64],
@@ -125,41 +116,57 @@ pub(crate) fn read_whole(
     tile: &mut [i32],
     map: &mut [i32],
     walk: &mut [i32],
-) -> Whole
+) -> Result<Read<Whole>, Stuck>
     requires shape_value { shape.old ≡ padded 8 [] }
     requires strides_value { strides.old ≡ padded 8 [] }
     requires tile_value { tile.old ≡ padded 8 [] }
     requires map_value { map.old ≡ padded 8 [] }
     requires walk_value { walk.old ≡ padded 8 [] }
-    ensures { Told s.now 0 (whole s.now) (entire shape.new strides.new tile.new map.new walk.new result) result.end }
+    ensures { Told s.now 0 (whole s.now) (entire shape.new strides.new tile.new map.new walk.new) result }
 {
-    let k = read_head(s);
-    if k.word < 22 {
-        return made(Kind::Scalar, false, k.word, false, 0, 0, k.end);
+    let k = read_head(s)?;
+    if k.value < 22 {
+        return Ok(Read {
+            value: made(Kind::Scalar, false, k.value, false, 0, 0),
+            end: k.end,
+        });
     }
-    if k.word < 24 {
-        return made(Kind::Token, false, 0, false, 0, 0, k.end);
+    if k.value < 24 {
+        return Ok(Read {
+            value: made(Kind::Token, false, 0, false, 0, 0),
+            end: k.end,
+        });
     }
-    if k.word < 26 {
-        let c = read_pointee(s, k.end, b">", b", #cuda_tile.ptr_attr<none>>");
-        return made(Kind::Pointer, false, c.word, c.marked, 0, 0, c.end);
+    if k.value < 26 {
+        let p = read_pointee(s, k.end, b">", b", #cuda_tile.ptr_attr<none>>")?;
+        let c = p.value;
+        return Ok(Read {
+            value: made(Kind::Pointer, false, c.word, c.marked, 0, 0),
+            end: p.end,
+        });
     }
-    if k.word < 28 {
-        let t = read_tile(s, k.end, shape);
-        let c = t.core;
-        return made(Kind::Tile, c.pointer, c.word, c.marked, t.rank, 0, c.end);
+    if k.value < 28 {
+        let t = read_tile(s, k.end, shape)?;
+        let c = t.value.core;
+        return Ok(Read {
+            value: made(Kind::Tile, c.pointer, c.word, c.marked, t.value.rank, 0),
+            end: t.end,
+        });
     }
-    if k.word < 30 {
-        let t = read_tensor(s, k.end, shape, strides);
-        return made(
-            Kind::TensorView,
-            false,
-            t.word,
-            t.marked,
-            t.rank,
-            t.len,
-            t.end,
-        );
+    if k.value < 30 {
+        let t = read_tensor(s, k.end, shape, strides)?;
+        let v = t.value;
+        return Ok(Read {
+            value: made(
+                Kind::TensorView,
+                false,
+                v.word,
+                v.rest.marked,
+                v.rank,
+                v.rest.len,
+            ),
+            end: t.end,
+        });
     }
-    read_view(s, k.end, k.word, shape, strides, tile, map, walk)
+    read_view(s, k.end, k.value, shape, strides, tile, map, walk)
 }

@@ -1,32 +1,24 @@
 -- `read_core` meets its contract: a name or a pointer, then the end of the tile.
 use Rattle.strict.proofs.Chain as H
-use Rattle.strict.specs.Inner as I
-use Rattle.strict.proofs.Insides as L
+use Rattle.strict.proofs.Insides as G
 use Rattle.strict.specs.Words.{choose, among}
-use Rattle.lexis.specs.Text.{bytes}
-use Prim.Native.Nat.{ℕ}
-use mathlib.Core.Path.{◌∙◌}
-use native.Mathlib.Omega.{arith}
 use borrow.Author.Rules.{rules}
+use mathlib.Core.Path.{refl}
+use Rattle.strict.specs.Inner.{core}
 use Rattle.strict.proofs.inner.read_core.Goals as goal
 
+pub returns-in_err-k : goal.returns-in_err-k
+unfolding choose among core
+returns-in_err-k c = H.stops _ c.in_err-k.ensures c.from_residual.ensures.1
+
+pub returns-in_err-m : goal.returns-in_err-m
+unfolding choose among core
+returns-in_err-m c = H.goes _ c.in_ok-k.ensures (H.same_as (G.below _ _ c.in_ok-k.k.value 22 (search rules)) (H.halts _ c.in_err-m.ensures c.from_residual-in_err-m.ensures.1))
+
 pub returns-then-k-lt22 : goal.returns-then-k-lt22
-unfolding choose among
-returns-then-k-lt22 c = let a = c.args in let s = a.s.now in let n = c.read_core_name-k in let m = c.read_word-m in let o = n.ensures.onward in let q = m.ensures.onward in
-    record {
-      same = L.core_is s a.from ∙ H.chain s (choose I.kerns) I.core_of n.result.word a.from n.result.end n.ensures.same
-          ∙ L.core_plain s n.result.end n.result.word (search rules)
-          ∙ H.last s (choose (bytes ">|")) (λ (k : ℕ). I.plain n.result.word) m.result.word n.result.end m.result.end m.ensures.same;
-      inside = m.ensures.inside;
-      onward = omega arith;
-    }
+unfolding choose among core
+returns-then-k-lt22 c = H.goes _ c.in_ok-k.ensures (H.same_as (G.below _ _ c.in_ok-k.k.value 22 (search rules)) (H.ends _ c.in_ok-m.ensures refl))
 
 pub returns : goal.returns
-unfolding choose among
-returns c = let a = c.args in let s = a.s.now in let n = c.read_core_name-k in let m = c.read_pointee in let o = n.ensures.onward in let q = m.ensures.onward in
-    record {
-      same = L.core_is s a.from ∙ H.chain s (choose I.kerns) I.core_of n.result.word a.from n.result.end n.ensures.same
-          ∙ L.core_point s n.result.end n.result.word (search rules) ∙ m.ensures.same;
-      inside = m.ensures.inside;
-      onward = omega arith;
-    }
+unfolding choose among core
+returns c = H.goes _ c.in_ok-k.ensures (H.same_as (G.above _ _ c.in_ok-k.k.value 22 (search rules)) c.read_pointee.ensures)

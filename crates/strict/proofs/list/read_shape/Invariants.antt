@@ -7,7 +7,7 @@ use Prim.Native.Nat.{◌-◌}
 use Rattle.strict.proofs.list.read_shape.Given as goal
 
 abbrev pub invariant-loop-i : goal.invariant-loop-i
-invariant-loop-i l = L.Reading dims64 l.s l.from (row l.initial.out 0) (length l.initial.out) l.out l.n l.i
+invariant-loop-i l = L.Reading dims64 l.s l.at (row l.initial.out 0) (length l.initial.out) l.out l.n l.i
 
 abbrev pub decreases-loop-i : goal.decreases-loop-i
 decreases-loop-i l = length l.s - l.i
