@@ -41,6 +41,7 @@ fn grow(s: &[u8], at: usize, v: u64, most: u64) -> Read<u64>
 }
 
 // A number from 1 to `most`.
+#[inline(always)]
 fn magnitude(s: &[u8], at: usize, most: u64) -> Result<Read<u64>, Stuck>
     requires at_in_bounds { at ≤ length s.now }
     requires le_most { 9 ≤ most }
@@ -104,6 +105,7 @@ pub(crate) fn number32(s: &[u8], at: usize) -> Result<Read<i32>, Stuck>
 }
 
 // A numeral of 64 bits, but not the smallest.
+#[inline(always)]
 fn number64(s: &[u8], at: usize) -> Result<Read<i64>, Stuck>
     requires { at ≤ length s.now }
     ensures { Told s.now at (numeral (2 ^ 63) (2 ^ 63) (drop at s.now)) (λ z. z) result }
@@ -133,6 +135,7 @@ fn number64(s: &[u8], at: usize) -> Result<Read<i64>, Stuck>
 }
 
 // A dimension: `?`, or a numeral of 64 bits.
+#[inline(always)]
 pub(crate) fn read_dim(s: &[u8], at: usize) -> Result<Read<i64>, Stuck>
     requires { at ≤ length s.now }
     ensures { Told s.now at (dimension (drop at s.now)) (λ z. z) result }
