@@ -1,12 +1,12 @@
 // Numerals in decimal, within a limit: digits are taken as long as the value stays within it.
-ghost use Rattle.std.specs.Prelude.{◌≡◌, drop, length, ◌+◌, ◌-◌, ◌≤◌, ◌<◌, ◌^◌, pos, neg_ℤ, Ok, IfOk};
+ghost use Rattle.std.specs.Prelude.{◌≡◌, drop, length, ◌+◌, ◌-◌, ◌≤◌, ◌<◌, ◌^◌, ◌≤ℤ◌, pos, neg_ℤ, Ok, IfOk};
 ghost use Rattle.grammar.specs.Number.{grow, magnitude};
 ghost use Rattle.strict.specs.Cursor.{Told, numeral, dimension, Spaced};
 
 use super::cursor::{Read, Stuck};
 
 // A dimension or stride whose size is not statically known.
-const DYNAMIC: i64 = -9223372036854775808;
+const DYNAMIC: i64 = i64::MIN;
 
 // Digits from `at` on, as long as the value is at most `most`; a digit is held to that only where it may pass it.
 fn grow(s: &[u8], at: usize, v: u64, most: u64) -> Read<u64>
@@ -61,18 +61,37 @@ fn magnitude(s: &[u8], at: usize, most: u64) -> Result<Read<u64>, Stuck>
     Ok(grow(s, at + 1, (b - b'0') as u64, most))
 }
 
-fn minus32(n: u64) -> i32
-    requires { n ≤ 2 ^ 31 }
-    ensures { result ≡ neg_ℤ (pos n) }
+// A numeral from `-least` to `most`.
+#[inline(always)]
+fn number(s: &[u8], at: usize, most: u64, least: u64) -> Result<Read<i64>, Stuck>
+    requires at_in_bounds { at ≤ length s.now }
+    requires most_in_bounds { 9 ≤ most × most < 2 ^ 63 }
+    requires least_in_bounds { 9 ≤ least × least < 2 ^ 63 }
+    ensures told { Told s.now at (numeral (most + 1) (least + 1) (drop at s.now)) (λ z. z) result }
+    ensures within { IfOk result (λ r. neg_ℤ (pos least) ≤ℤ r.value × r.value ≤ℤ pos most) }
 {
-    if n == 0 { 0 } else { -1 - ((n - 1) as i32) }
-}
-
-fn minus64(n: u64) -> i64
-    requires { n ≤ 2 ^ 63 }
-    ensures { result ≡ neg_ℤ (pos n) }
-{
-    if n == 0 { 0 } else { -1 - ((n - 1) as i64) }
+    if s.len() <= at {
+        return Err(Stuck { at });
+    }
+    let b = s[at];
+    if b == b'-' {
+        let m = magnitude(s, at + 1, least)?;
+        return Ok(Read {
+            value: -(m.value as i64),
+            end: m.end,
+        });
+    }
+    if b == b'0' {
+        return Ok(Read {
+            value: 0,
+            end: at + 1,
+        });
+    }
+    let m = magnitude(s, at, most)?;
+    Ok(Read {
+        value: m.value as i64,
+        end: m.end,
+    })
 }
 
 // A numeral of 32 bits.
@@ -80,57 +99,10 @@ pub(crate) fn number32(s: &[u8], at: usize) -> Result<Read<i32>, Stuck>
     requires { at ≤ length s.now }
     ensures { Told s.now at (numeral (2 ^ 31) (2 ^ 31 + 1) (drop at s.now)) (λ z. z) result }
 {
-    if s.len() <= at {
-        return Err(Stuck { at });
-    }
-    let b = s[at];
-    if b == b'-' {
-        let m = magnitude(s, at + 1, 2147483648)?;
-        return Ok(Read {
-            value: minus32(m.value),
-            end: m.end,
-        });
-    }
-    if b == b'0' {
-        return Ok(Read {
-            value: 0,
-            end: at + 1,
-        });
-    }
-    let m = magnitude(s, at, 2147483647)?;
+    let n = number(s, at, i32::MAX as u64, i32::MAX as u64 + 1)?;
     Ok(Read {
-        value: m.value as i32,
-        end: m.end,
-    })
-}
-
-// A numeral of 64 bits, but not the smallest.
-#[inline(always)]
-fn number64(s: &[u8], at: usize) -> Result<Read<i64>, Stuck>
-    requires { at ≤ length s.now }
-    ensures { Told s.now at (numeral (2 ^ 63) (2 ^ 63) (drop at s.now)) (λ z. z) result }
-{
-    if s.len() <= at {
-        return Err(Stuck { at });
-    }
-    let b = s[at];
-    if b == b'-' {
-        let m = magnitude(s, at + 1, 9223372036854775807)?;
-        return Ok(Read {
-            value: minus64(m.value),
-            end: m.end,
-        });
-    }
-    if b == b'0' {
-        return Ok(Read {
-            value: 0,
-            end: at + 1,
-        });
-    }
-    let m = magnitude(s, at, 9223372036854775807)?;
-    Ok(Read {
-        value: m.value as i64,
-        end: m.end,
+        value: n.value as i32,
+        end: n.end,
     })
 }
 
@@ -149,7 +121,8 @@ pub(crate) fn read_dim(s: &[u8], at: usize) -> Result<Read<i64>, Stuck>
             end: at + 1,
         });
     }
-    number64(s, at)
+    // the smallest of 64 bits says `?`
+    number(s, at, i64::MAX as u64, i64::MAX as u64)
 }
 
 // One space, or none; none behind an `x`.
