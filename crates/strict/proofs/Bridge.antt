@@ -112,7 +112,7 @@ turn_of false m = B.list
 abbrev turn_said : ℕ → B.Turn
 turn_said k = turn_of (ltb k 2) (marked k)
 
-pushes_len : (l : Row) (zs : List ℤ) → (pushes l zs).len ≡ l.len + length zs
+pushes_len : (l : Row ℤ) (zs : List ℤ) → (pushes l zs).len ≡ l.len + length zs
 pushes_len l [] = omega arith
 pushes_len l (z ∷ zs) = let h = pushes_len (pushed l z) zs in omega arith
 

@@ -27,7 +27,7 @@ use Rattle.strict.specs.Inner as I
 use Rattle.strict.specs.Views as C
 use Rattle.strict.specs.Whole.{Entire, view_of, view}
 use Rattle.strict.specs.Plain.{padding, seen, said}
-use Rattle.strict.proofs.Items.{num_is}
+use Rattle.strict.specs.Laws.{num_is}
 use Rattle.strict.proofs.Picking.{choose_label}
 use Rattle.strict.proofs.Together.{Same, neither, Named, along, convey, onto, label, closing, close, ended, ended_then}
 use Rattle.strict.proofs.Endings.{small_list, entry_list}
@@ -66,10 +66,10 @@ sight_is k t = by (ltb k 2)
 
 -- ── a list, and the tensor view ──
 pub record Staged : Type 0 where
-  pub list : Row
+  pub list : Row ℤ
   pub sight : C.Seen
 
-abbrev stage' : Row → C.Seen → Staged
+abbrev stage' : Row ℤ → C.Seen → Staged
 stage' l v = record { list = l; sight = v }
 
 abbrev scene : Bool → List ℕ → Answer Staged
@@ -105,7 +105,7 @@ walk_scene_is : (t : List ℕ) → Same Scene~ ((N.walk_scene).read t) (scene fa
 walk_scene_is t = subst (λ (p : Answer (Ended ℤ G.Mid)). Same Scene~ (after stage p) (scene false t)) (sym (small_list (G.mid 93 tt) tt tt refl t)) (scene_by false (G.mid 93 tt).read walk_mid t)
 
 -- ── the ends ──
-abbrev pub Map~ : Ended ℤ (Unit {0}) → Row → Type 0
+abbrev pub Map~ : Ended ℤ (Unit {0}) → Row ℤ → Type 0
 Map~ e l = pushes nothing e.items ≡ l
 
 map_list_is : (t : List ℕ) → Same Map~ ((N.map_list).read t) (after C.map_tail (C.entries false t))
@@ -153,7 +153,7 @@ sparse_end_is t = onto (C.closed nothing) (sparse_part_is t) (λ z y q. record {
 abbrev pub View~ : Kind → Any → C.Viewed → Type 0
 View~ k a c = seen a ≡ said (view_of k c)
 
-view~ : (k : Kind) (tl m w : List ℤ) (v : G.Sight) (z : ℤ) (c : C.Seen) (l : Row) (lm lw : Row) (y : ℤ) → pushes nothing tl ≡ l → Sight~ v c → pushes nothing m ≡ lm → pushes nothing w ≡ lw → z ≡ y →
+view~ : (k : Kind) (tl m w : List ℤ) (v : G.Sight) (z : ℤ) (c : C.Seen) (l : Row ℤ) (lm lw : Row ℤ) (y : ℤ) → pushes nothing tl ≡ l → Sight~ v c → pushes nothing m ≡ lm → pushes nothing w ≡ lw → z ≡ y →
     View~ k (N.sighted k tl v m w z) (C.viewed l c lm lw y)
 view~ k tl m w v z c l lm lw y a s b d e = λ j. record {
   kind = k;
@@ -173,7 +173,7 @@ view~ k tl m w v z c l lm lw y a s b d e = λ j. record {
 abbrev bare : Bool → List ℕ → Answer C.Viewed
 bare b t = after (λ c r. mapped (λ e. C.viewed c.list c.sight e.map nothing e.sparse) (C.ending b r)) (scene true t)
 
-abbrev walk_rest : Row → List ℕ → Answer C.Viewed
+abbrev walk_rest : Row ℤ → List ℕ → Answer C.Viewed
 walk_rest l t = after (λ c r. mapped (λ e. C.viewed l c.sight e.map c.list e.sparse) (C.ending false r)) (scene false t)
 
 partition_is : (t : List ℕ) → Same (View~ K.Partition) ((N.partition_inside).read t) (bare false t)
@@ -206,14 +206,14 @@ strided_is t = subst (λ (p : Answer (Ended ℤ (Unit {0}))). Same (View~ K.Stri
     (λ e. (N.walk_rest e.items).read) (λ l (k : ℕ) x. walk_rest l x) (λ zs b k x h. walk_rest_is zs x) (list32 true t))
 
 -- ── the views as the code reads them: one part after another ──
-module _ (k : Kind) (m : List ℕ → Answer ℕ) (e : List ℕ → Answer C.Closed) (h : Row → C.Seen → C.Closed → C.Viewed) where
-  abbrev last_part : Row → C.Seen → List ℕ → Answer Entire
+module _ (k : Kind) (m : List ℕ → Answer ℕ) (e : List ℕ → Answer C.Closed) (h : Row ℤ → C.Seen → C.Closed → C.Viewed) where
+  abbrev last_part : Row ℤ → C.Seen → List ℕ → Answer Entire
   last_part l v z = mapped (λ c. view_of k (h l v c)) (e z)
 
   abbrev ended_with : Staged → List ℕ → Answer C.Viewed
   ended_with c r = mapped (h c.list c.sight) (e r)
 
-  flat : (p : Answer Row) →
+  flat : (p : Answer (Row ℤ)) →
       mapped (view_of k) (after ended_with (after (λ l r. after (λ j y. mapped (stage' l) (C.sight j y)) (m r)) p)) ≡ after (λ l r. after (λ j y. after (last_part l) (C.sight j y)) (m r)) p
   flat (got l r) = on_mid (m r)
     where
@@ -238,14 +238,14 @@ strided_view : (t : List ℕ) → mapped (view_of K.Strided) (strided t) ≡ vie
 unfolding C.walking
 strided_view t = on (C.entries true t)
   where
-    part : Row → Row → List ℕ → Answer Entire
+    part : Row ℤ → Row ℤ → List ℕ → Answer Entire
     part l w x = after (λ j y. after (λ v z. mapped (λ c. view_of K.Strided (C.viewed l v c.map w c.sparse)) (C.ending false z)) (C.sight j y)) (C.mid false x)
 
-    on_word : (l : Row) (q : Answer ℕ) → mapped (view_of K.Strided) (after (λ (k : ℕ) x. walk_rest l x) q) ≡ after (part l) (after (λ (k : ℕ) x. C.entries false x) q)
+    on_word : (l : Row ℤ) (q : Answer ℕ) → mapped (view_of K.Strided) (after (λ (k : ℕ) x. walk_rest l x) q) ≡ after (part l) (after (λ (k : ℕ) x. C.entries false x) q)
     on_word l (got n x) = flat K.Strided (C.mid false) (C.ending false) (λ w v c. C.viewed l v c.map w c.sparse) (C.entries false x)
     on_word l (stuck x) = refl
 
-    on : (p : Answer Row) → mapped (view_of K.Strided) (after (λ l r. after (λ (k : ℕ) x. walk_rest l x) (choose C.travels r)) p)
+    on : (p : Answer (Row ℤ)) → mapped (view_of K.Strided) (after (λ l r. after (λ (k : ℕ) x. walk_rest l x) (choose C.travels r)) p)
         ≡ after (λ l r. after (part l) (after (λ (k : ℕ) x. C.entries false x) (choose C.travels r))) p
     on (got l r) = on_word l (choose C.travels r)
     on (stuck r) = refl

@@ -5,7 +5,7 @@ use mathlib.Core.Bool.{Bool, true, false, cond, not, ◌&&◌}
 use mathlib.Core.List.{List, []}
 use mathlib.Core.Path.{◌≡◌, refl, subst, sym, ap}
 use lib.Dec.{T, ltb, ltb→lt, lt→ltb}
-use lib.IntN.{pos}
+use lib.IntN.{ℤ, pos}
 use Rattle.lexis.specs.Text.{bytes}
 use Rattle.scalars.specs.declared.scalar.Scalar.TheVariants.{I1}
 use Rattle.meaning.specs.declared.Kind.TheVariants as K
@@ -48,7 +48,7 @@ module _ (k : ℕ) (r : List ℕ) where
   tile : Same Whole~ ((G.next H.tile).read r) (mapped C.tile_of (I.tile r))
   tile = convey G.tile_any C.tile_of (tile_is r) (λ e c h. λ j. said_tile (h.core j) (h.shape j))
     where
-      said_tile : E.Core → Row → Plain
+      said_tile : E.Core → Row ℤ → Plain
       said_tile c l = record {
         kind = K.Tile;
         element = c.element;

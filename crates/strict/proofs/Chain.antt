@@ -6,9 +6,9 @@ use mathlib.Core.Path.{◌≡◌, subst, sym, ap, ◌∙◌}
 use lib.ListN.{drop, length}
 use Rattle.std.specs.Prelude.{Result, Ok, Err}
 use Rattle.std.specs.Result.{IsErrAnd}
-use Rattle.grammar.specs.Piece.{Answer, got, stuck}
+use Rattle.grammar.specs.Piece.{Answer, got}
 use Rattle.grammar.specs.Join.{mapped, after}
-use Rattle.strict.specs.Cursor.{Told, said}
+use Rattle.strict.specs.Cursor.{Told}
 use Rattle.strict.specs.declared.cursor.Read.{Read}
 use Rattle.strict.specs.declared.cursor.Stuck.{Stuck}
 

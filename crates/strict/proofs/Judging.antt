@@ -1,12 +1,12 @@
 -- Laws of the answer: lists as rows, the record and the judgement of what was read, and the refusals in their order.
 use Rattle.std.specs.Prelude.{if◌then◌else◌}
-use Prim.Native.Nat.{ℕ, zero, suc, ◌+◌, ◌-◌, ◌≤◌, ◌<◌}
+use Prim.Native.Nat.{ℕ, zero, suc, ◌+◌, ◌≤◌, ◌<◌}
 use native.Mathlib.Omega.{arith}
-use mathlib.Core.Bool.{Bool, true, false, cond, ◌&&◌}
+use mathlib.Core.Bool.{true, false, ◌&&◌}
 use mathlib.Core.List.{List, [], ◌∷◌, ◌++◌, append_assoc, append-nil}
 use mathlib.Core.Option.{none, some}
 use mathlib.Core.Path.{◌≡◌, refl, sym, ap, subst, ◌∙◌}
-use borrow.Author.Tests.{le-leb, lt-leb, leb-true}
+use borrow.Author.Tests.{le-leb, lt-leb}
 use lib.Dec.{leb}
 use lib.IntN.{ℤ}
 use lib.ListN.{length, drop, get_or, length-append, drop_of_length-le}
@@ -46,7 +46,7 @@ module _ {A : Type 0} (d : A) where
 
 -- ── rows ──
 
-abbrev row : List ℤ → Row
+abbrev row : List ℤ → Row ℤ
 row zs = record { values = padded 8 zs; len = length zs }
 
 one_more : (ys : List ℤ) (z : ℤ) → length ys + 1 ≡ length (ys ++ z ∷ [])
@@ -56,7 +56,7 @@ one_more ys z = sym (length-append ys (z ∷ []))
 rows : (ys zs : List ℤ) → pushes (row ys) zs ≡ row (ys ++ zs)
 rows ys [] = ap row (sym (append-nil ys))
 rows ys (z ∷ zs) =
-    ap (λ (l : Row). pushes l zs) (λ i. record { values = slot 8 ys z i; len = one_more ys z i })
+    ap (λ (l : Row ℤ). pushes l zs) (λ i. record { values = slot 8 ys z i; len = one_more ys z i })
     ∙ rows (ys ++ z ∷ []) zs ∙ ap row (append_assoc ys (z ∷ []) zs)
 
 row_is : (zs : List ℤ) → pushes nothing zs ≡ row zs

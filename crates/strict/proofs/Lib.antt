@@ -4,7 +4,6 @@ pub mod Chain
 pub mod Tree
 pub mod Picking
 pub mod Rows
-pub mod Items
 pub mod Listing
 pub mod Insides
 pub mod Together

@@ -54,7 +54,7 @@ close q zs x = mapped (closing zs) (q x)
 
 module _ {B K D D' : Type 0} {S : B → K → Type 0} {U : D → D' → Type 0} (q : List ℕ → Answer B) (c : List ℕ → Answer K) (h : (x : List ℕ) → Same S (q x) (c x)) where
   -- and then more
-  pub ended_then : (f : Ended ℤ B → List ℕ → Answer D) (g : Row → K → List ℕ → Answer D') →
+  pub ended_then : (f : Ended ℤ B → List ℕ → Answer D) (g : Row ℤ → K → List ℕ → Answer D') →
       ((zs : List ℤ) (b : B) (k : K) (x : List ℕ) → S b k → Same U (f (closing zs b) x) (g (pushes nothing zs) k x)) →
       (p : Answer (List ℤ)) → Same U (after f (after (close q) p)) (after (λ l r. after (g l) (c r)) (mapped (pushes nothing) p))
   ended_then f g k (got zs r) = by (h r)
@@ -65,7 +65,7 @@ module _ {B K D D' : Type 0} {S : B → K → Type 0} {U : D → D' → Type 0} 
   ended_then f g k (stuck r) = neither r
 
 module _ {B K D : Type 0} {S : B → K → Type 0} {U : Ended ℤ B → D → Type 0} (q : List ℕ → Answer B) (c : List ℕ → Answer K) (h : (x : List ℕ) → Same S (q x) (c x)) where
-  pub ended : (g : Row → K → D) → ((zs : List ℤ) (b : B) (k : K) → S b k → U (closing zs b) (g (pushes nothing zs) k)) →
+  pub ended : (g : Row ℤ → K → D) → ((zs : List ℤ) (b : B) (k : K) → S b k → U (closing zs b) (g (pushes nothing zs) k)) →
       (p : Answer (List ℤ)) → Same U (after (close q) p) (after (λ l r. mapped (g l) (c r)) (mapped (pushes nothing) p))
   ended g k (got zs r) = by (h r)
     where

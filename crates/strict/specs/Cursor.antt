@@ -1,5 +1,5 @@
 -- What an answer of the code says of the text: a value with the place after it, or the place where it is stuck; and the numerals.
-use Rattle.std.specs.Prelude.{ℕ, ◌+◌, ◌-◌, ◌^◌, ◌≤◌, Bool, cond, List, [], ◌∷◌, ◌≡◌, eqb, drop, length, ℤ, pos, negsuc, neg_ℤ, Result, Ok, Err}
+use Rattle.std.specs.Prelude.{ℕ, ◌-◌, ◌^◌, ◌≤◌, cond, List, [], ◌∷◌, ◌≡◌, eqb, drop, length, ℤ, pos, negsuc, neg_ℤ, Result, Ok, Err}
 use Rattle.grammar.specs.Piece.{Answer, got, stuck}
 use Rattle.grammar.specs.Join.{mapped}
 use Rattle.grammar.specs.Number as N
@@ -39,11 +39,7 @@ abbrev pub skip : List ℕ → List ℕ
 skip [] = []
 skip (c ∷ t) = cond (eqb 32 c) t (c ∷ t)
 
--- behind an `x` none may stand
-abbrev pub gap : Bool → List ℕ → List ℕ
-gap x t = cond x t (skip t)
-
-pub record Spaced (x : Bool) (s : List ℕ) (at r : ℕ) : Type 0 where
-  pub same : gap x (drop at s) ≡ drop r s
+pub record Spaced (s : List ℕ) (at r : ℕ) : Type 0 where
+  pub same : skip (drop at s) ≡ drop r s
   pub inside : r ≤ length s
   pub onward : at ≤ r

@@ -74,17 +74,17 @@ abbrev pub cored : Core → Cored
 cored c = record { pointer = c.pointer; word = c.word; marked = c.marked }
 
 -- ── a list of dimensions ──
-abbrev pub shape : List ℕ → Answer Row
+abbrev pub shape : List ℕ → Answer (Row ℤ)
 shape t = mapped (pushes nothing) (dims64 t)
 
-abbrev pub strides : List ℕ → Answer Row
+abbrev pub strides : List ℕ → Answer (Row ℤ)
 strides t = mapped (pushes nothing) (list64 t)
 
 pub record Tiled : Type 0 where
-  pub shape : Row
+  pub shape : Row ℤ
   pub core : Cored
 
-abbrev pub tile_of : Row → Cored → Tiled
+abbrev pub tile_of : Row ℤ → Cored → Tiled
 tile_of l c = record { shape = l; core = c }
 
 unfoldable pub tile : List ℕ → Answer Tiled
@@ -95,10 +95,10 @@ tiled l c = tile_of (row l c.rank) (cored c.core)
 
 -- ── a tensor view ──
 pub record Rested : Type 0 where
-  pub strides : Row
+  pub strides : Row ℤ
   pub marked : Bool
 
-abbrev pub rest_of : Row → ℕ → Rested
+abbrev pub rest_of : Row ℤ → ℕ → Rested
 rest_of l m = record { strides = l; marked = eqb m 1 }
 
 unfoldable pub listed : List ℕ → Answer Rested
@@ -118,11 +118,11 @@ abbrev pub rested : List ℤ → Rest → Rested
 rested l c = record { strides = row l c.len; marked = c.marked }
 
 pub record Tensed : Type 0 where
-  pub shape : Row
+  pub shape : Row ℤ
   pub word : ℕ
   pub rest : Rested
 
-abbrev pub tens_of : Row → ℕ → Rested → Tensed
+abbrev pub tens_of : Row ℤ → ℕ → Rested → Tensed
 tens_of l k r = record { shape = l; word = k; rest = r }
 
 unfoldable pub tensor : List ℕ → Answer Tensed

@@ -2,6 +2,7 @@
 pub mod Cursor
 pub mod Words
 pub mod Rows
+pub mod Laws
 pub mod Lists
 pub mod Inner
 pub mod Views

@@ -20,11 +20,11 @@ pub record Plain : Type 0 where
   pub element : Scalar
   pub pointer : Bool
   pub attribute : Bool
-  pub shape : Row
-  pub strides : Row
-  pub tile : Row
-  pub map : Row
-  pub walk : Row
+  pub shape : Row ℤ
+  pub strides : Row ℤ
+  pub tile : Row ℤ
+  pub map : Row ℤ
+  pub walk : Row ℤ
   pub sparse : ℤ
   pub padding : Padding
 

@@ -64,24 +64,24 @@ abbrev pub sighted : List ℤ → List ℤ → Sight → Seen
 sighted l m v = seen v.padded v.pad (tensed l m v.tensor)
 
 -- ── the entries of the tile, and what stands behind them ──
-abbrev pub entries : Bool → List ℕ → Answer Row
+abbrev pub entries : Bool → List ℕ → Answer (Row ℤ)
 entries b t = mapped (pushes nothing) (list32 b t)
 
 unfoldable pub mid : Bool → List ℕ → Answer ℕ
 mid b t = cond b (choose mids t) (choose walk_mids t)
 
 -- between the tile and that word: nothing, or, in a strided view, the traversal
-unfoldable pub walking : Bool → List ℕ → Answer Row
+unfoldable pub walking : Bool → List ℕ → Answer (Row ℤ)
 walking bare t = cond bare (got nothing t) (after (λ (k : ℕ) x. entries false x) (choose travels t))
 
 -- ── the ends ──
-abbrev pub map_tail : Row → List ℕ → Answer Row
+abbrev pub map_tail : Row ℤ → List ℕ → Answer (Row ℤ)
 map_tail l r = mapped (λ (k : ℕ). l) (choose (bytes "]>|") r)
 
-abbrev pub map_from : ℕ → List ℕ → Answer Row
+abbrev pub map_from : ℕ → List ℕ → Answer (Row ℤ)
 map_from k r = after map_tail (entries false r)
 
-unfoldable pub map_part : List ℕ → Answer Row
+unfoldable pub map_part : List ℕ → Answer (Row ℤ)
 map_part t = after map_from (choose maps t)
 
 abbrev pub small : List ℕ → Answer ℤ
@@ -98,10 +98,10 @@ sparse_part t = after sparse_from (choose sparses t)
 
 -- the map, or the sparse dimension
 pub record Closed : Type 0 where
-  pub map : Row
+  pub map : Row ℤ
   pub sparse : ℤ
 
-abbrev pub closed : Row → ℤ → Closed
+abbrev pub closed : Row ℤ → ℤ → Closed
 closed m z = record { map = m; sparse = z }
 
 abbrev pub enclosed : List ℤ → Last → Closed
@@ -112,11 +112,11 @@ ending sparse t = cond sparse (mapped (closed nothing) (sparse_part t)) (mapped 
 
 -- ── the views ──
 pub record Viewed : Type 0 where
-  pub tile : Row
+  pub tile : Row ℤ
   pub sight : Seen
-  pub map : Row
-  pub walk : Row
+  pub map : Row ℤ
+  pub walk : Row ℤ
   pub sparse : ℤ
 
-abbrev pub viewed : Row → Seen → Row → Row → ℤ → Viewed
+abbrev pub viewed : Row ℤ → Seen → Row ℤ → Row ℤ → ℤ → Viewed
 viewed t v m w z = record { tile = t; sight = v; map = m; walk = w; sparse = z }

@@ -33,16 +33,16 @@ pub record Entire : Type 0 where
   pub pointer : Bool
   pub word : ℕ
   pub marked : Bool
-  pub shape : Row
-  pub strides : Row
-  pub tile : Row
-  pub map : Row
-  pub walk : Row
+  pub shape : Row ℤ
+  pub strides : Row ℤ
+  pub tile : Row ℤ
+  pub map : Row ℤ
+  pub walk : Row ℤ
   pub sparse : ℤ
   pub padded : Bool
   pub pad : ℕ
 
-abbrev pub simple : Kind → Bool → ℕ → Bool → Row → Row → Entire
+abbrev pub simple : Kind → Bool → ℕ → Bool → Row ℤ → Row ℤ → Entire
 simple k p w m sh st = record {
   kind = k;
   pointer = p;

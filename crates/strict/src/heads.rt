@@ -45,7 +45,7 @@ fn kind_full(s: &[u8], at: usize) -> Result<Read<usize>, Stuck>
     requires { at ≤ length s.now }
     ensures { Told s.now at (among (advance 33 (entries heads)) (drop at s.now)) (λ v. v) result }
 {
-    let p = fit(s, at, b"cuda_tile.", 0)?;
+    let p = fit(s, at, b"cuda_tile.", ())?;
     kind(s, p.end, 23)
 }
 

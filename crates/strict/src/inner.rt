@@ -6,7 +6,7 @@ ghost use Rattle.strict.specs.Words.{differ};
 ghost use Rattle.strict.specs.Inner.{pointed, core, cored, tile, tiled, listed, rest, rested, tensor, tensed};
 
 use super::cursor::{Read, Stuck};
-use super::list::{read_list64, read_shape};
+use super::list::{read_list, read_shape};
 use super::middles::read_open;
 use super::names::{read_core_name, read_name};
 use super::words::{fit, fork, read_two};
@@ -50,7 +50,7 @@ pub(crate) fn read_pointee(
     ensures { Told s.now at (pointed bare.now marked.now (drop at s.now)) cored result }
 {
     let n = read_name(s, at)?;
-    let m = fork(s, n.end, bare, 0, marked, 1)?;
+    let m = fork(s, n.end, bare, 0usize, marked, 1)?;
     Ok(Read {
         value: Core {
             pointer: true,
@@ -68,7 +68,7 @@ fn read_core(s: &[u8], at: usize) -> Result<Read<Core>, Stuck>
 {
     let k = read_core_name(s, at)?;
     if k.value < 22 {
-        let m = fit(s, k.end, b">", 0)?;
+        let m = fit(s, k.end, b">", 0usize)?;
         return Ok(Read {
             value: Core {
                 pointer: false,
@@ -104,7 +104,7 @@ fn read_strides(s: &[u8], at: usize, strides: &mut [i64]) -> Result<Read<Rest>, 
     requires strides_value { strides.old ≡ padded 8 [] }
     ensures { Told s.now at (listed (drop at s.now)) (rested strides.new) result }
 {
-    let l = read_list64(s, at, strides)?;
+    let l = read_list(s, at, strides)?;
     let m = read_two(s, l.end, b"]", b">", b", #cuda_tile.ptr_attr<none>>")?;
     Ok(Read {
         value: Rest {

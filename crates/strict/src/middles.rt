@@ -32,7 +32,7 @@ pub(crate) fn read_open(s: &[u8], at: usize) -> Result<Read<usize>, Stuck>
             end: at + 1,
         });
     }
-    let c = fit(s, at, b",", 0)?;
+    let c = fit(s, at, b",", ())?;
     open_comma(s, c.end)
 }
 
@@ -44,7 +44,7 @@ fn pad_n(s: &[u8], at: usize) -> Result<Read<usize>, Stuck>
     if peek(s, at) == b'a' {
         return fit(s, at + 1, b"n", 2);
     }
-    let p = fit(s, at, b"eg_", 0)?;
+    let p = fit(s, at, b"eg_", ())?;
     fork(s, p.end, b"zero", 1, b"inf", 4)
 }
 
@@ -70,7 +70,7 @@ fn open_tensor(s: &[u8], at: usize, k: usize) -> Result<Read<usize>, Stuck>
     if peek(s, at) == b'!' {
         return fit(s, at + 1, b"cuda_tile.tensor_view<", k + 2);
     }
-    let p = fit(s, at, b"tensor_view", 0)?;
+    let p = fit(s, at, b"tensor_view", ())?;
     fork(s, p.end, b"<", k, b"=!cuda_tile.tensor_view<", k + 4)
 }
 
@@ -92,7 +92,7 @@ pub(crate) fn read_lead(s: &[u8], at: usize) -> Result<Read<usize>, Stuck>
     requires { at ≤ length s.now }
     ensures { Told s.now at (choose leads (drop at s.now)) (λ v. v) result }
 {
-    let c = fit(s, at, b",", 0)?;
+    let c = fit(s, at, b",", ())?;
     if peek(s, c.end) == b' ' {
         return open_tensor(s, c.end + 1, 1);
     }
@@ -116,9 +116,9 @@ pub(crate) fn read_mid(s: &[u8], at: usize, tile: bool) -> Result<Read<usize>, S
     ensures { Told s.now at (mid tile (drop at s.now)) (λ v. v) result }
 {
     if tile {
-        let c = fit(s, at, b"),", 0)?;
+        let c = fit(s, at, b"),", ())?;
         return mid_comma(s, c.end);
     }
-    let c = fit(s, at, b"],", 0)?;
+    let c = fit(s, at, b"],", ())?;
     mid_comma(s, c.end)
 }

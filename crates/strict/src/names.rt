@@ -62,7 +62,7 @@ fn name_f8_by(
     match peek(t, at) {
         b'4' => fit(t, at + 1, w, 11 + k),
         b'5' => {
-            let p = fit(t, at + 1, m, 0)?;
+            let p = fit(t, at + 1, m, ())?;
             fork(t, p.end, b"2", 13 + k, v, 19 + k)
         }
         b'8' => fit(t, at + 1, x, 15 + k),

@@ -125,18 +125,12 @@ pub(crate) fn read_dim(s: &[u8], at: usize) -> Result<Read<i64>, Stuck>
     number(s, at, i64::MAX as u64, i64::MAX as u64)
 }
 
-// One space, or none; none behind an `x`.
-pub(crate) fn space(s: &[u8], at: usize, x: bool) -> usize
+// Past one space, if it stands.
+pub(crate) fn space(s: &[u8], at: usize) -> usize
     requires { at ≤ length s.now }
-    ensures { Spaced x s.now at result }
+    ensures { Spaced s.now at result }
 {
-    if x {
-        return at;
-    }
-    if s.len() <= at {
-        return at;
-    }
-    if s[at] == b' ' {
+    if at < s.len() && s[at] == b' ' {
         return at + 1;
     }
     at

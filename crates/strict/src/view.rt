@@ -7,7 +7,7 @@ ghost use Rattle.strict.specs.Views.{sight, sighted, walking, map_part, sparse_p
 
 use super::cursor::{Read, Stuck};
 use super::inner::{Tensor, read_tensor};
-use super::list::read_list32;
+use super::list::read_list;
 use super::middles::{read_lead, read_pad};
 use super::number::number32;
 use super::words::{fit, read_two};
@@ -85,7 +85,7 @@ pub(crate) fn read_walk(
         b"traversal_strides=[",
         b" traversal_strides=[",
     )?;
-    read_list32(s, k.end, false, walk)
+    read_list(s, k.end, walk)
 }
 
 // The dimension map, and the end of the view.
@@ -95,8 +95,8 @@ fn read_map(s: &[u8], at: usize, map: &mut [i32]) -> Result<Read<usize>, Stuck>
     ensures { Told s.now at (map_part (drop at s.now)) (row map.new) result }
 {
     let k = read_two(s, at, b",", b"dim_map=[", b" dim_map=[")?;
-    let l = read_list32(s, k.end, false, map)?;
-    let m = fit(s, l.end, b"]>", 0)?;
+    let l = read_list(s, k.end, map)?;
+    let m = fit(s, l.end, b"]>", 0usize)?;
     Ok(Read {
         value: l.value,
         end: m.end,
@@ -110,7 +110,7 @@ fn read_sparse(s: &[u8], at: usize) -> Result<Read<i32>, Stuck>
 {
     let k = read_two(s, at, b",", b"sparse_dim=", b" sparse_dim=")?;
     let n = number32(s, k.end)?;
-    let m = fit(s, n.end, b">", 0)?;
+    let m = fit(s, n.end, b">", 0usize)?;
     Ok(Read {
         value: n.value,
         end: m.end,

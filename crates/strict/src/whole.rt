@@ -7,7 +7,7 @@ ghost use Rattle.strict.specs.Whole.{plainly, kind_by, entire, from_partition, w
 use super::cursor::{Read, Stuck};
 use super::heads::read_head;
 use super::inner::{read_pointee, read_tensor, read_tile};
-use super::list::read_list32;
+use super::list::read_entries;
 use super::middles::read_mid;
 use super::view::{read_last, read_sight, read_walk};
 use meaning::Kind;
@@ -82,7 +82,7 @@ fn read_view(
     ensures { Told s.now at (from_partition k (drop at s.now)) (entire shape.new strides.new tile.new map.new walk.new) result }
 {
     let bare = k < 34;
-    let t = read_list32(s, at, true, tile)?;
+    let t = read_entries(s, at, tile)?;
     let w = read_walk(s, t.end, bare, walk)?;
     let m = read_mid(s, w.end, bare)?;
     let v = read_sight(s, m.end, m.value, shape, strides)?;

@@ -16,10 +16,10 @@ pub(crate) fn peek(s: &[u8], at: usize) -> u8
     0
 }
 
-// The word `w`, of the number `k`.
-pub(crate) fn fit(s: &[u8], at: usize, w: &[u8], k: usize) -> Result<Read<usize>, Stuck>
+// The word `w`, which says `value`.
+pub(crate) fn fit<V: Copy>(s: &[u8], at: usize, w: &[u8], value: V) -> Result<Read<V>, Stuck>
     requires { at ≤ length s.now }
-    ensures { Told s.now at (among ((w.now ↝ k) ∷ []) (drop at s.now)) (λ v. v) result }
+    ensures { Told s.now at (among ((w.now ↝ value) ∷ []) (drop at s.now)) (λ v. v) result }
 {
     let mut i = at;
     let mut j = 0;
@@ -33,18 +33,18 @@ pub(crate) fn fit(s: &[u8], at: usize, w: &[u8], k: usize) -> Result<Read<usize>
         i += 1;
         j += 1;
     }
-    Ok(Read { value: k, end: i })
+    Ok(Read { value, end: i })
 }
 
-// The word `v` or the word `w`, by the first byte of `w`.
-pub(crate) fn fork(
+// The word `v` or the word `w`, by the first byte of `w`; one says `j`, the other `k`.
+pub(crate) fn fork<V: Copy>(
     s: &[u8],
     at: usize,
     v: &[u8],
-    j: usize,
+    j: V,
     w: &[u8],
-    k: usize,
-) -> Result<Read<usize>, Stuck>
+    k: V,
+) -> Result<Read<V>, Stuck>
     requires at_in_bounds { at ≤ length s.now }
     requires apart { T (differ v.now w.now) }
     ensures { Told s.now at (among ((v.now ↝ j) ∷ (w.now ↝ k) ∷ []) (drop at s.now)) (λ v. v) result }
@@ -68,6 +68,6 @@ pub(crate) fn read_two(
     ensures { Told s.now at (among (both lead.now v.now 0 w.now 1) (drop at s.now)) (λ v. v) result }
 {
     let t = &s[..]; // handed on as two words (decision 55)
-    let p = fit(t, at, lead, 0)?;
+    let p = fit(t, at, lead, ())?;
     fork(t, p.end, v, 0, w, 1)
 }

@@ -8,16 +8,16 @@ use Rattle.strict.proofs.middles.read_mid.Goals as goal
 
 pub returns-in_err-c : goal.returns-in_err-c
 unfolding choose among mid
-returns-in_err-c c = H.same_as (G.yes _ _ c.if-tile.true) (L.off 0 _ _ c.in_err-c.ensures c.from_residual.ensures.1 tt)
+returns-in_err-c c = H.same_as (G.yes _ _ c.if-tile.true) (L.off _ _ _ c.in_err-c.ensures c.from_residual.ensures.1 tt)
 
 pub returns-then-tile : goal.returns-then-tile
 unfolding choose among mid
-returns-then-tile c = H.same_as (G.yes _ _ c.if-tile.true) (L.via 0 _ _ c.in_ok-c.ensures c.mid_comma.ensures tt)
+returns-then-tile c = H.same_as (G.yes _ _ c.if-tile.true) (L.via _ _ _ c.in_ok-c.ensures c.mid_comma.ensures tt)
 
 pub returns-in_err-c-2 : goal.returns-in_err-c-2
 unfolding choose among mid
-returns-in_err-c-2 c = H.same_as (G.no _ _ c.if-tile.false) (L.off 0 _ _ c.in_err-c-2.ensures c.from_residual-in_err-c-2.ensures.1 tt)
+returns-in_err-c-2 c = H.same_as (G.no _ _ c.if-tile.false) (L.off _ _ _ c.in_err-c-2.ensures c.from_residual-in_err-c-2.ensures.1 tt)
 
 pub returns : goal.returns
 unfolding choose among mid
-returns c = H.same_as (G.no _ _ c.if-tile.false) (L.via 0 _ _ c.in_ok-c-2.ensures c.mid_comma-2.ensures tt)
+returns c = H.same_as (G.no _ _ c.if-tile.false) (L.via _ _ _ c.in_ok-c-2.ensures c.mid_comma-2.ensures tt)

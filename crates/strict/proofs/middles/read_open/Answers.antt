@@ -9,8 +9,8 @@ returns-then-peek-eq62 c = let k = c.if-peek-eq62.true in L.down _ c.peek.ensure
 
 pub returns-in_err-c : goal.returns-in_err-c
 unfolding choose among
-returns-in_err-c c = L.but _ c.peek.ensures c.if-peek-eq62.false (L.off 0 _ _ c.in_err-c.ensures c.from_residual.ensures.1 tt)
+returns-in_err-c c = L.but _ c.peek.ensures c.if-peek-eq62.false (L.off _ _ _ c.in_err-c.ensures c.from_residual.ensures.1 tt)
 
 pub returns : goal.returns
 unfolding choose among
-returns c = L.but _ c.peek.ensures c.if-peek-eq62.false (L.via 0 _ _ c.in_ok-c.ensures c.open_comma.ensures tt)
+returns c = L.but _ c.peek.ensures c.if-peek-eq62.false (L.via _ _ _ c.in_ok-c.ensures c.open_comma.ensures tt)

@@ -3,6 +3,7 @@ use Rattle.strict.proofs.Chain as H
 use Rattle.strict.proofs.Insides as G
 use Rattle.strict.specs.Words.{choose, among}
 use Rattle.strict.specs.Views.{walking}
+use Rattle.strict.proofs.Listing as L
 use Rattle.strict.proofs.view.read_walk.Goals as goal
 
 pub returns-then-bare : goal.returns-then-bare
@@ -15,4 +16,4 @@ returns-in_err-k c = H.same_as (G.no _ _ c.if-bare.false) (H.stops _ c.in_err-k.
 
 pub returns : goal.returns
 unfolding choose among walking
-returns c = H.same_as (G.no _ _ c.if-bare.false) (H.goes _ c.in_ok-k.ensures c.read_list32.ensures)
+returns c = H.same_as (G.no _ _ c.if-bare.false) (H.goes _ c.in_ok-k.ensures (L.blank _ c.requires.walk_value c.read_list.ensures))
