@@ -29,10 +29,18 @@ pub onto : {A B B' : Type 0} {R : A → B → Type 0} {S : A → B' → Type 0} 
 onto g (both a b r h) k = both a (g b) r (k a b h)
 onto g (neither r) k = neither r
 
--- both values in the same words
-pub told : {A B D : Type 0} {R : A → B → Type 0} (f : A → D) (g : B → D) {p : Answer A} {q : Answer B} → Same R p q → ((a : A) (b : B) → R a b → f a ≡ g b) → mapped f p ≡ mapped g q
-told f g (both a b r h) k = ap (λ z. got z r) (k a b h)
-told f g (neither r) k = refl
+-- the first in the words of the other
+pub told : {A B : Type 0} {R : A → B → Type 0} (f : A → B) {p : Answer A} {q : Answer B} → Same R p q → ((a : A) (b : B) → R a b → f a ≡ b) → mapped f p ≡ q
+told f (both a b r h) k = ap (λ z. got z r) (k a b h)
+told f (neither r) k = refl
+
+-- the same answer
+pub alike : {A : Type 0} (p q : Answer A) → p ≡ q → Same ◌≡◌ p q
+alike {A = A} p q e = subst (λ (z : Answer A). Same ◌≡◌ z q) (sym e) (self q)
+  where
+    self : (q : Answer A) → Same ◌≡◌ q q
+    self (got a r) = both a a r refl
+    self (stuck r) = neither r
 
 -- the first in the words of the second
 abbrev pub Named : {A B : Type 0} → (B → A) → A → B → Type 0

@@ -5,6 +5,7 @@ pub mod Rows
 pub mod Laws
 pub mod Lists
 pub mod Inner
+pub mod Heads
 pub mod Views
 pub mod Whole
 pub mod Plain

@@ -1,20 +1,21 @@
-// What stands in a pointer, a tile and a tensor view, with what ends it. Names are numbers in the table of names.
+// What stands in a pointer, a tile and a tensor view, with what ends it.
 ghost use Rattle.std.specs.Prelude.{◌≡◌, [], T, drop, length, ◌≤◌};
 ghost use Rattle.meaning.specs.Found.{padded};
 ghost use Rattle.strict.specs.Cursor.{Told};
 ghost use Rattle.strict.specs.Words.{differ};
-ghost use Rattle.strict.specs.Inner.{pointed, core, cored, tile, tiled, listed, rest, rested, tensor, tensed};
+ghost use Rattle.strict.specs.Inner.{pointee, closings, core, cored, tile, tiled, listed, rest, rested, tensor, tensed};
 
 use super::cursor::{Read, Stuck};
 use super::list::{read_list, read_shape};
 use super::middles::read_open;
 use super::names::{read_core_name, read_name};
 use super::words::{fit, fork, read_two};
+use scalars::Scalar;
 
 #[derive(Clone, Copy)]
 pub(crate) struct Core {
     pub(crate) pointer: bool,
-    pub(crate) word: usize,
+    pub(crate) element: Scalar,
     pub(crate) marked: bool,
 }
 
@@ -34,7 +35,7 @@ pub(crate) struct Rest {
 #[derive(Clone, Copy)]
 pub(crate) struct Tensor {
     pub(crate) rank: usize,
-    pub(crate) word: usize,
+    pub(crate) element: Scalar,
     pub(crate) rest: Rest,
 }
 
@@ -47,15 +48,15 @@ pub(crate) fn read_pointee(
 ) -> Result<Read<Core>, Stuck>
     requires at_in_bounds { at ≤ length s.now }
     requires apart { T (differ bare.now marked.now) }
-    ensures { Told s.now at (pointed bare.now marked.now (drop at s.now)) cored result }
+    ensures { Told s.now at (pointee (closings bare.now marked.now) (drop at s.now)) cored result }
 {
     let n = read_name(s, at)?;
-    let m = fork(s, n.end, bare, 0usize, marked, 1)?;
+    let m = fork(s, n.end, bare, false, marked, true)?;
     Ok(Read {
         value: Core {
             pointer: true,
-            word: n.value,
-            marked: m.value == 1,
+            element: n.value,
+            marked: m.value,
         },
         end: m.end,
     })
@@ -67,18 +68,18 @@ fn read_core(s: &[u8], at: usize) -> Result<Read<Core>, Stuck>
     ensures { Told s.now at (core (drop at s.now)) cored result }
 {
     let k = read_core_name(s, at)?;
-    if k.value < 22 {
-        let m = fit(s, k.end, b">", 0usize)?;
-        return Ok(Read {
-            value: Core {
-                pointer: false,
-                word: k.value,
-                marked: false,
-            },
-            end: m.end,
-        });
-    }
-    read_pointee(s, k.end, b">>", b", #cuda_tile.ptr_attr<none>>>")
+    let Some(element) = k.value else {
+        return read_pointee(s, k.end, b">>", b", #cuda_tile.ptr_attr<none>>>");
+    };
+    let m = fit(s, k.end, b">", ())?;
+    Ok(Read {
+        value: Core {
+            pointer: false,
+            element,
+            marked: false,
+        },
+        end: m.end,
+    })
 }
 
 // What stands in a tile, with its end.
@@ -109,7 +110,7 @@ fn read_strides(s: &[u8], at: usize, strides: &mut [i64]) -> Result<Read<Rest>, 
     Ok(Read {
         value: Rest {
             len: l.value,
-            marked: m.value == 1,
+            marked: m.value,
         },
         end: m.end,
     })
@@ -123,12 +124,9 @@ fn read_rest(s: &[u8], at: usize, rank: usize, strides: &mut [i64]) -> Result<Re
 {
     if rank == 0 {
         let k = read_open(s, at)?;
-        if k.value < 2 {
+        if let Some(marked) = k.value {
             return Ok(Read {
-                value: Rest {
-                    len: 0,
-                    marked: k.value == 1,
-                },
+                value: Rest { len: 0, marked },
                 end: k.end,
             });
         }
@@ -156,7 +154,7 @@ pub(crate) fn read_tensor(
     Ok(Read {
         value: Tensor {
             rank: l.value,
-            word: n.value,
+            element: n.value,
             rest: r.value,
         },
         end: r.end,

@@ -1,46 +1,50 @@
-// The names of the scalars, byte for byte; each is known by its number.
+// The names of the scalars, byte for byte.
 ghost use Rattle.std.specs.Prelude.{T, drop, length, ◌≤◌};
 ghost use Rattle.lexis.specs.Text.{bytes};
 ghost use Rattle.strict.specs.Cursor.{Told};
-ghost use Rattle.strict.specs.Words.{among, choose, differ};
+ghost use Rattle.strict.specs.Words.{among, differ};
 ghost use Rattle.strict.specs.Inner.{names, named, eights, kerns};
 
 use super::cursor::{Read, Stuck};
 use super::words::{fit, fork, peek};
+use scalars::Scalar;
 
 // After `i`.
-pub(crate) fn name_i(s: &[u8], at: usize) -> Result<Read<usize>, Stuck>
+pub(crate) fn name_i(s: &[u8], at: usize) -> Result<Read<Scalar>, Stuck>
     requires { at ≤ length s.now }
     ensures { Told s.now at (among (named (bytes "i")) (drop at s.now)) (λ v. v) result }
 {
     match peek(s, at) {
         b'1' => fork_i1(s, at + 1),
         b'4' => Ok(Read {
-            value: 1,
+            value: Scalar::I4,
             end: at + 1,
         }),
         b'8' => Ok(Read {
-            value: 2,
+            value: Scalar::I8,
             end: at + 1,
         }),
-        b'3' => fit(s, at + 1, b"2", 4),
-        b'6' => fit(s, at + 1, b"4", 5),
+        b'3' => fit(s, at + 1, b"2", Scalar::I32),
+        b'6' => fit(s, at + 1, b"4", Scalar::I64),
         _ => Err(Stuck { at }),
     }
 }
 
 // After `i1`: `i16`, or that is all.
-fn fork_i1(s: &[u8], at: usize) -> Result<Read<usize>, Stuck>
+fn fork_i1(s: &[u8], at: usize) -> Result<Read<Scalar>, Stuck>
     requires { at ≤ length s.now }
     ensures { Told s.now at (among (named (bytes "i1")) (drop at s.now)) (λ v. v) result }
 {
     if peek(s, at) == b'6' {
         return Ok(Read {
-            value: 3,
+            value: Scalar::I16,
             end: at + 1,
         });
     }
-    Ok(Read { value: 0, end: at })
+    Ok(Read {
+        value: Scalar::I1,
+        end: at,
+    })
 }
 
 // After `f8E` or `f8e`: `4` and `w`, `5` and `m` and one of two, `8` and `x`.
@@ -51,77 +55,88 @@ fn name_f8_by(
     m: &[u8],
     v: &[u8],
     x: &[u8],
-    k: usize,
-) -> Result<Read<usize>, Stuck>
+) -> Result<Read<Scalar>, Stuck>
     requires at_in_bounds { at ≤ length s.now }
     requires apart { T (differ (bytes "2") v.now) }
-    requires k_bound { k ≤ 1 }
-    ensures { Told s.now at (among (eights w.now m.now v.now x.now k) (drop at s.now)) (λ v. v) result }
+    ensures { Told s.now at (among (eights w.now m.now v.now x.now) (drop at s.now)) (λ v. v) result }
 {
     let t = &s[..]; // handed on as two words (decision 55)
     match peek(t, at) {
-        b'4' => fit(t, at + 1, w, 11 + k),
+        b'4' => fit(t, at + 1, w, Scalar::F8E4M3FN),
         b'5' => {
             let p = fit(t, at + 1, m, ())?;
-            fork(t, p.end, b"2", 13 + k, v, 19 + k)
+            fork(t, p.end, b"2", Scalar::F8E5M2, v, Scalar::F8E5M3FNU)
         }
-        b'8' => fit(t, at + 1, x, 15 + k),
+        b'8' => fit(t, at + 1, x, Scalar::F8E8M0FNU),
         _ => Err(Stuck { at }),
     }
 }
 
 // After `f8`.
-fn name_f8(s: &[u8], at: usize) -> Result<Read<usize>, Stuck>
+fn name_f8(s: &[u8], at: usize) -> Result<Read<Scalar>, Stuck>
     requires { at ≤ length s.now }
     ensures { Told s.now at (among (named (bytes "f8")) (drop at s.now)) (λ v. v) result }
 {
     match peek(s, at) {
-        b'E' => name_f8_by(s, at + 1, b"M3FN", b"M", b"3FNU", b"M0FNU", 0),
-        b'e' => name_f8_by(s, at + 1, b"m3fn", b"m", b"3fnu", b"m0fnu", 1),
+        b'E' => name_f8_by(s, at + 1, b"M3FN", b"M", b"3FNU", b"M0FNU"),
+        b'e' => name_f8_by(s, at + 1, b"m3fn", b"m", b"3fnu", b"m0fnu"),
         _ => Err(Stuck { at }),
     }
 }
 
 // After `f`.
-pub(crate) fn name_f(s: &[u8], at: usize) -> Result<Read<usize>, Stuck>
+pub(crate) fn name_f(s: &[u8], at: usize) -> Result<Read<Scalar>, Stuck>
     requires { at ≤ length s.now }
     ensures { Told s.now at (among (named (bytes "f")) (drop at s.now)) (λ v. v) result }
 {
     let t = &s[..]; // handed on as two words (decision 55)
     match peek(t, at) {
-        b'1' => fit(t, at + 1, b"6", 6),
-        b'3' => fit(t, at + 1, b"2", 8),
-        b'4' => fork(t, at + 1, b"E2M1FN", 17, b"e2m1fn", 18),
-        b'6' => fit(t, at + 1, b"4", 10),
+        b'1' => fit(t, at + 1, b"6", Scalar::F16),
+        b'3' => fit(t, at + 1, b"2", Scalar::F32),
+        b'4' => fork(
+            t,
+            at + 1,
+            b"E2M1FN",
+            Scalar::F4E2M1FN,
+            b"e2m1fn",
+            Scalar::F4E2M1FN,
+        ),
+        b'6' => fit(t, at + 1, b"4", Scalar::F64),
         b'8' => name_f8(t, at + 1),
         _ => Err(Stuck { at }),
     }
 }
 
 // A name.
-pub(crate) fn read_name(s: &[u8], at: usize) -> Result<Read<usize>, Stuck>
+pub(crate) fn read_name(s: &[u8], at: usize) -> Result<Read<Scalar>, Stuck>
     requires { at ≤ length s.now }
-    ensures { Told s.now at (choose names (drop at s.now)) (λ v. v) result }
+    ensures { Told s.now at (among names (drop at s.now)) (λ v. v) result }
 {
     let t = &s[..]; // handed on as two words (decision 55)
     match peek(t, at) {
-        b'b' => fork(t, at + 1, b"f16", 7, b"ool", 21),
+        b'b' => fork(t, at + 1, b"f16", Scalar::BF16, b"ool", Scalar::I1),
         b'f' => name_f(t, at + 1),
         b'i' => name_i(t, at + 1),
-        b't' => fit(t, at + 1, b"f32", 9),
+        b't' => fit(t, at + 1, b"f32", Scalar::TF32),
         _ => Err(Stuck { at }),
     }
 }
 
-// A name, or the beginning of a pointer.
-pub(crate) fn read_core_name(s: &[u8], at: usize) -> Result<Read<usize>, Stuck>
+// A name; or the beginning of a pointer, which is none.
+pub(crate) fn read_core_name(s: &[u8], at: usize) -> Result<Read<Option<Scalar>>, Stuck>
     requires { at ≤ length s.now }
-    ensures { Told s.now at (choose kerns (drop at s.now)) (λ v. v) result }
+    ensures { Told s.now at (among kerns (drop at s.now)) (λ v. v) result }
 {
     let t = &s[..]; // handed on as two words (decision 55)
     match peek(t, at) {
-        b'!' => fit(t, at + 1, b"cuda_tile.ptr<", 23),
-        b'p' => fit(t, at + 1, b"tr<", 22),
-        _ => read_name(t, at),
+        b'!' => fit(t, at + 1, b"cuda_tile.ptr<", None),
+        b'p' => fit(t, at + 1, b"tr<", None),
+        _ => {
+            let n = read_name(t, at)?;
+            Ok(Read {
+                value: Some(n.value),
+                end: n.end,
+            })
+        }
     }
 }

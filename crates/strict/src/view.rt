@@ -11,12 +11,12 @@ use super::list::read_list;
 use super::middles::{read_lead, read_pad};
 use super::number::number32;
 use super::words::{fit, read_two};
+use meaning::Padding;
 
-// A tensor view, and the padding before it by its number.
+// A tensor view, and the padding before it.
 #[derive(Clone, Copy)]
 pub(crate) struct Sight {
-    pub(crate) padded: bool,
-    pub(crate) pad: usize,
+    pub(crate) padding: Padding,
     pub(crate) tensor: Tensor,
 }
 
@@ -27,27 +27,26 @@ pub(crate) struct Last {
     pub(crate) sparse: i32,
 }
 
-// What follows the word `k` that opens a tensor view or a padding.
+// What follows the word that opens a tensor view or, where it is `led`, a padding.
 pub(crate) fn read_sight(
     s: &[u8],
     at: usize,
-    k: usize,
+    led: bool,
     shape: &mut [i64],
     strides: &mut [i64],
 ) -> Result<Read<Sight>, Stuck>
     requires at_in_bounds { at ≤ length s.now }
     requires shape_value { shape.old ≡ padded 8 [] }
     requires strides_value { strides.old ≡ padded 8 [] }
-    ensures { Told s.now at (sight k (drop at s.now)) (sighted shape.new strides.new) result }
+    ensures { Told s.now at (sight led (drop at s.now)) (sighted shape.new strides.new) result }
 {
-    if k < 2 {
+    if led {
         let p = read_pad(s, at)?;
         let l = read_lead(s, p.end)?;
         let t = read_tensor(s, l.end, shape, strides)?;
         return Ok(Read {
             value: Sight {
-                padded: true,
-                pad: p.value,
+                padding: p.value,
                 tensor: t.value,
             },
             end: t.end,
@@ -56,8 +55,7 @@ pub(crate) fn read_sight(
     let t = read_tensor(s, at, shape, strides)?;
     Ok(Read {
         value: Sight {
-            padded: false,
-            pad: 0,
+            padding: Padding::Absent,
             tensor: t.value,
         },
         end: t.end,
@@ -96,7 +94,7 @@ fn read_map(s: &[u8], at: usize, map: &mut [i32]) -> Result<Read<usize>, Stuck>
 {
     let k = read_two(s, at, b",", b"dim_map=[", b" dim_map=[")?;
     let l = read_list(s, k.end, map)?;
-    let m = fit(s, l.end, b"]>", 0usize)?;
+    let m = fit(s, l.end, b"]>", ())?;
     Ok(Read {
         value: l.value,
         end: m.end,
@@ -110,11 +108,7 @@ fn read_sparse(s: &[u8], at: usize) -> Result<Read<i32>, Stuck>
 {
     let k = read_two(s, at, b",", b"sparse_dim=", b" sparse_dim=")?;
     let n = number32(s, k.end)?;
-    let m = fit(s, n.end, b">", 0usize)?;
-    Ok(Read {
-        value: n.value,
-        end: m.end,
-    })
+    fit(s, n.end, b">", n.value)
 }
 
 // The end of a view: its sparse dimension, or its map.

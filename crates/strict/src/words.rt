@@ -1,5 +1,5 @@
-// Words at a place: one word, or one of two that differ in their first byte. A word is known by its number in its table.
-ghost use Rattle.std.specs.Prelude.{◌≡◌, [], ◌∷◌, T, drop, length, get_or, ◌≤◌};
+// Words at a place: one word, or one of two that differ in their first byte. Each says something, as in a table.
+ghost use Rattle.std.specs.Prelude.{◌≡◌, [], ◌∷◌, T, false, true, drop, length, get_or, ◌≤◌};
 ghost use Rattle.grammar.specs.Table.{◌↝◌};
 ghost use Rattle.strict.specs.Cursor.{Told};
 ghost use Rattle.strict.specs.Words.{among, differ, both};
@@ -55,19 +55,19 @@ pub(crate) fn fork<V: Copy>(
     fit(s, at, v, j)
 }
 
-// The same two after the word `lead`: 0 is the first, 1 the second.
+// One of two words after the word `lead`, and whether it is the second.
 pub(crate) fn read_two(
     s: &[u8],
     at: usize,
     lead: &[u8],
     v: &[u8],
     w: &[u8],
-) -> Result<Read<usize>, Stuck>
+) -> Result<Read<bool>, Stuck>
     requires at_in_bounds { at ≤ length s.now }
     requires apart { T (differ v.now w.now) }
-    ensures { Told s.now at (among (both lead.now v.now 0 w.now 1) (drop at s.now)) (λ v. v) result }
+    ensures { Told s.now at (among (both lead.now v.now false w.now true) (drop at s.now)) (λ v. v) result }
 {
     let t = &s[..]; // handed on as two words (decision 55)
     let p = fit(t, at, lead, ())?;
-    fork(t, p.end, v, 0, w, 1)
+    fork(t, p.end, v, false, w, true)
 }

@@ -17,4 +17,4 @@ pub returns-in-116 : goal.returns-in-116
 returns-in-116 c = L.down _ c.peek.ensures c.in-116.is c.kind_t.ensures tt
 
 pub returns-in_default : goal.returns-in_default
-returns-in_default c = L.stop _ c.peek.ensures (103 ∷ 112 ∷ 115 ∷ 116 ∷ []) ((λ e. omega arith), ((λ e. omega arith), ((λ e. omega arith), ((λ e. omega arith), tt)))) c.requires.at_in_bounds tt
+returns-in_default c = L.stop _ c.peek.ensures (103 ∷ 112 ∷ 115 ∷ 116 ∷ []) ((λ e. omega arith), ((λ e. omega arith), ((λ e. omega arith), ((λ e. omega arith), tt)))) c.requires tt

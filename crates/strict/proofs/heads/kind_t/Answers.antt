@@ -14,4 +14,4 @@ pub returns-in-111 : goal.returns-in-111
 returns-in-111 c = L.down _ c.peek.ensures c.in-111.is c.fit-in-111.ensures tt
 
 pub returns-in_default : goal.returns-in_default
-returns-in_default c = L.stop _ c.peek.ensures (101 ∷ 105 ∷ 111 ∷ []) ((λ e. omega arith), ((λ e. omega arith), ((λ e. omega arith), tt))) c.requires.at_in_bounds tt
+returns-in_default c = L.stop _ c.peek.ensures (101 ∷ 105 ∷ 111 ∷ []) ((λ e. omega arith), ((λ e. omega arith), ((λ e. omega arith), tt))) c.requires tt

@@ -3,10 +3,10 @@ use Rattle.strict.proofs.Tree as L
 use Rattle.strict.proofs.middles.open_tensor.Goals as goal
 
 pub returns-then-peek-eq33 : goal.returns-then-peek-eq33
-returns-then-peek-eq33 c = L.down _ c.peek.ensures c.if-peek-eq33.true c.fit.ensures tt
+returns-then-peek-eq33 g c = L.down _ c.peek.ensures c.if-peek-eq33.true c.fit.ensures tt
 
 pub returns-in_err-p : goal.returns-in_err-p
-returns-in_err-p c = L.but _ c.peek.ensures c.if-peek-eq33.false (L.off _ _ _ c.in_err-p.ensures c.from_residual.ensures.1 tt)
+returns-in_err-p g c = L.but _ c.peek.ensures c.if-peek-eq33.false (L.off _ _ _ c.in_err-p.ensures c.from_residual.ensures.1 tt)
 
 pub returns : goal.returns
-returns c = L.but _ c.peek.ensures c.if-peek-eq33.false (L.via _ _ _ c.in_ok-p.ensures c.fork.ensures tt)
+returns g c = L.but _ c.peek.ensures c.if-peek-eq33.false (L.via _ _ _ c.in_ok-p.ensures c.fork.ensures tt)

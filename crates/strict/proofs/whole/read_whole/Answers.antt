@@ -1,47 +1,54 @@
--- `read_whole` meets its contract: the number of the first word tells the kind and what follows.
+-- `read_whole` meets its contract: the first word tells the kind and what follows.
 use Rattle.strict.proofs.Chain as H
-use Rattle.strict.proofs.Insides as G
-use Rattle.strict.specs.Words.{choose, among}
-use borrow.Author.Rules.{rules}
-use Rattle.strict.specs.Whole.{whole}
+use mathlib.Core.Path.{ap}
+use Rattle.strict.specs.Whole.{whole, from_head}
+use lib.ListN.{drop}
 use Rattle.strict.proofs.whole.read_whole.Goals as goal
 
-pub returns-in_err-k : goal.returns-in_err-k
-unfolding choose among whole
-returns-in_err-k c = H.stops _ c.in_err-k.ensures c.from_residual.ensures.1
+pub returns-in_err-h : goal.returns-in_err-h
+unfolding whole
+returns-in_err-h c = H.stops _ c.in_err-h.ensures c.from_residual.ensures.1
 
-pub returns-then-k-lt22 : goal.returns-then-k-lt22
-unfolding choose among whole
-returns-then-k-lt22 c = H.goes _ c.in_ok-k.ensures (H.same_as (G.below _ _ c.in_ok-k.k.value 22 (search rules)) (H.done (rw (c.made.ensures, c.requires.shape_value, c.requires.strides_value, c.requires.tile_value, c.requires.map_value, c.requires.walk_value)) c.in_ok-k.ensures.inside))
+pub returns-in-Scalar : goal.returns-in-Scalar
+unfolding whole
+returns-in-Scalar c = H.goes _ c.in_ok-h.ensures (H.same_as (ap (λ v. from_head v (drop c.in_ok-h.h.end c.args.s.now)) c.in-Scalar.is) (H.done (rw (c.made.ensures, c.requires.shape_value, c.requires.strides_value, c.requires.tile_value, c.requires.map_value, c.requires.walk_value)) c.in_ok-h.ensures.inside))
 
-pub returns-then-k-lt24 : goal.returns-then-k-lt24
-unfolding choose among whole
-returns-then-k-lt24 c = H.goes _ c.in_ok-k.ensures (H.same_as (G.above _ _ c.in_ok-k.k.value 22 (search rules)) (H.same_as (G.below _ _ c.in_ok-k.k.value 24 (search rules)) (H.done (rw (c.made-then-k-lt24.ensures, c.requires.shape_value, c.requires.strides_value, c.requires.tile_value, c.requires.map_value, c.requires.walk_value)) c.in_ok-k.ensures.inside)))
+pub returns-in-Token : goal.returns-in-Token
+unfolding whole
+returns-in-Token c = H.goes _ c.in_ok-h.ensures (H.same_as (ap (λ v. from_head v (drop c.in_ok-h.h.end c.args.s.now)) c.in-Token.is) (H.done (rw (c.made-in-Token.ensures, c.requires.shape_value, c.requires.strides_value, c.requires.tile_value, c.requires.map_value, c.requires.walk_value)) c.in_ok-h.ensures.inside))
 
-pub returns-in_err-p : goal.returns-in_err-p
-unfolding choose among whole
-returns-in_err-p c = H.goes _ c.in_ok-k.ensures (H.same_as (G.above _ _ c.in_ok-k.k.value 22 (search rules)) (H.same_as (G.above _ _ c.in_ok-k.k.value 24 (search rules)) (H.same_as (G.below _ _ c.in_ok-k.k.value 26 (search rules)) (H.halts _ c.in_err-p.ensures c.from_residual-in_err-p.ensures.1))))
+pub returns-in_err-p-in-Pointer : goal.returns-in_err-p-in-Pointer
+unfolding whole
+returns-in_err-p-in-Pointer c = H.goes _ c.in_ok-h.ensures (H.same_as (ap (λ v. from_head v (drop c.in_ok-h.h.end c.args.s.now)) c.in-Pointer.is) (H.halts _ c.in_err-p-in-Pointer.ensures c.from_residual-in_err-p-in-Pointer.ensures.1))
 
-pub returns-then-k-lt26 : goal.returns-then-k-lt26
-unfolding choose among whole
-returns-then-k-lt26 c = H.goes _ c.in_ok-k.ensures (H.same_as (G.above _ _ c.in_ok-k.k.value 22 (search rules)) (H.same_as (G.above _ _ c.in_ok-k.k.value 24 (search rules)) (H.same_as (G.below _ _ c.in_ok-k.k.value 26 (search rules)) (H.ends _ c.in_ok-p.ensures (rw (c.made-then-k-lt26.ensures, c.requires.shape_value, c.requires.strides_value, c.requires.tile_value, c.requires.map_value, c.requires.walk_value))))))
+pub returns-in_ok-p-in-Pointer : goal.returns-in_ok-p-in-Pointer
+unfolding whole
+returns-in_ok-p-in-Pointer c = H.goes _ c.in_ok-h.ensures (H.same_as (ap (λ v. from_head v (drop c.in_ok-h.h.end c.args.s.now)) c.in-Pointer.is) (H.ends _ c.in_ok-p-in-Pointer.ensures (rw (c.made-in-Pointer.ensures, c.requires.shape_value, c.requires.strides_value, c.requires.tile_value, c.requires.map_value, c.requires.walk_value))))
 
-pub returns-in_err-t : goal.returns-in_err-t
-unfolding choose among whole
-returns-in_err-t c = H.goes _ c.in_ok-k.ensures (H.same_as (G.above _ _ c.in_ok-k.k.value 22 (search rules)) (H.same_as (G.above _ _ c.in_ok-k.k.value 24 (search rules)) (H.same_as (G.above _ _ c.in_ok-k.k.value 26 (search rules)) (H.same_as (G.below _ _ c.in_ok-k.k.value 28 (search rules)) (H.halts _ c.in_err-t.ensures c.from_residual-in_err-t.ensures.1)))))
+pub returns-in_err-t-in-Tile : goal.returns-in_err-t-in-Tile
+unfolding whole
+returns-in_err-t-in-Tile c = H.goes _ c.in_ok-h.ensures (H.same_as (ap (λ v. from_head v (drop c.in_ok-h.h.end c.args.s.now)) c.in-Tile.is) (H.halts _ c.in_err-t-in-Tile.ensures c.from_residual-in_err-t-in-Tile.ensures.1))
 
-pub returns-then-k-lt28 : goal.returns-then-k-lt28
-unfolding choose among whole
-returns-then-k-lt28 c = H.goes _ c.in_ok-k.ensures (H.same_as (G.above _ _ c.in_ok-k.k.value 22 (search rules)) (H.same_as (G.above _ _ c.in_ok-k.k.value 24 (search rules)) (H.same_as (G.above _ _ c.in_ok-k.k.value 26 (search rules)) (H.same_as (G.below _ _ c.in_ok-k.k.value 28 (search rules)) (H.ends _ c.in_ok-t.ensures (rw (c.made-then-k-lt28.ensures, c.requires.strides_value, c.requires.tile_value, c.requires.map_value, c.requires.walk_value)))))))
+pub returns-in_ok-t-in-Tile : goal.returns-in_ok-t-in-Tile
+unfolding whole
+returns-in_ok-t-in-Tile c = H.goes _ c.in_ok-h.ensures (H.same_as (ap (λ v. from_head v (drop c.in_ok-h.h.end c.args.s.now)) c.in-Tile.is) (H.ends _ c.in_ok-t-in-Tile.ensures (rw (c.made-in-Tile.ensures, c.requires.strides_value, c.requires.tile_value, c.requires.map_value, c.requires.walk_value))))
 
-pub returns-in_err-t-2 : goal.returns-in_err-t-2
-unfolding choose among whole
-returns-in_err-t-2 c = H.goes _ c.in_ok-k.ensures (H.same_as (G.above _ _ c.in_ok-k.k.value 22 (search rules)) (H.same_as (G.above _ _ c.in_ok-k.k.value 24 (search rules)) (H.same_as (G.above _ _ c.in_ok-k.k.value 26 (search rules)) (H.same_as (G.above _ _ c.in_ok-k.k.value 28 (search rules)) (H.same_as (G.below _ _ c.in_ok-k.k.value 30 (search rules)) (H.halts _ c.in_err-t-2.ensures c.from_residual-in_err-t-2.ensures.1))))))
+pub returns-in_err-t-in-TensorView : goal.returns-in_err-t-in-TensorView
+unfolding whole
+returns-in_err-t-in-TensorView c = H.goes _ c.in_ok-h.ensures (H.same_as (ap (λ v. from_head v (drop c.in_ok-h.h.end c.args.s.now)) c.in-TensorView.is) (H.halts _ c.in_err-t-in-TensorView.ensures c.from_residual-in_err-t-in-TensorView.ensures.1))
 
-pub returns-then-k-lt30 : goal.returns-then-k-lt30
-unfolding choose among whole
-returns-then-k-lt30 c = H.goes _ c.in_ok-k.ensures (H.same_as (G.above _ _ c.in_ok-k.k.value 22 (search rules)) (H.same_as (G.above _ _ c.in_ok-k.k.value 24 (search rules)) (H.same_as (G.above _ _ c.in_ok-k.k.value 26 (search rules)) (H.same_as (G.above _ _ c.in_ok-k.k.value 28 (search rules)) (H.same_as (G.below _ _ c.in_ok-k.k.value 30 (search rules)) (H.ends _ c.in_ok-t-2.ensures (rw (c.made-then-k-lt30.ensures, c.requires.tile_value, c.requires.map_value, c.requires.walk_value))))))))
+pub returns-in_ok-t-in-TensorView : goal.returns-in_ok-t-in-TensorView
+unfolding whole
+returns-in_ok-t-in-TensorView c = H.goes _ c.in_ok-h.ensures (H.same_as (ap (λ v. from_head v (drop c.in_ok-h.h.end c.args.s.now)) c.in-TensorView.is) (H.ends _ c.in_ok-t-in-TensorView.ensures (rw (c.made-in-TensorView.ensures, c.requires.tile_value, c.requires.map_value, c.requires.walk_value))))
 
-pub returns : goal.returns
-unfolding choose among whole
-returns c = H.goes _ c.in_ok-k.ensures (H.same_as (G.above _ _ c.in_ok-k.k.value 22 (search rules)) (H.same_as (G.above _ _ c.in_ok-k.k.value 24 (search rules)) (H.same_as (G.above _ _ c.in_ok-k.k.value 26 (search rules)) (H.same_as (G.above _ _ c.in_ok-k.k.value 28 (search rules)) (H.same_as (G.above _ _ c.in_ok-k.k.value 30 (search rules)) (c.read_view.ensures))))))
+pub returns-in-Partition : goal.returns-in-Partition
+unfolding whole
+returns-in-Partition c = H.goes _ c.in_ok-h.ensures (H.same_as (ap (λ v. from_head v (drop c.in_ok-h.h.end c.args.s.now)) c.in-Partition.is) (c.read_view.ensures))
+
+pub returns-in-GatherScatter : goal.returns-in-GatherScatter
+unfolding whole
+returns-in-GatherScatter c = H.goes _ c.in_ok-h.ensures (H.same_as (ap (λ v. from_head v (drop c.in_ok-h.h.end c.args.s.now)) c.in-GatherScatter.is) (c.read_view-in-GatherScatter.ensures))
+
+pub returns-in-Strided : goal.returns-in-Strided
+unfolding whole
+returns-in-Strided c = H.goes _ c.in_ok-h.ensures (H.same_as (ap (λ v. from_head v (drop c.in_ok-h.h.end c.args.s.now)) c.in-Strided.is) (c.read_view-in-Strided.ensures))
