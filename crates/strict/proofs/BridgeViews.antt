@@ -1,9 +1,8 @@
 -- The code's readers walk together with the grammar's pieces: what stands in the three views.
 use Prim.Native.Nat.{ℕ}
-use mathlib.Core.Bool.{Bool, true, false, cond}
+use mathlib.Core.Bool.{Bool, true, false}
 use mathlib.Core.List.{List, [], ◌∷◌}
-use mathlib.Core.Path.{◌≡◌, refl, subst, sym, ◌∙◌}
-use lib.Dec.{ltb}
+use mathlib.Core.Path.{◌≡◌, refl, subst, sym, ap}
 use lib.IntN.{ℤ, pos}
 use Rattle.lexis.specs.Text.{bytes}
 use Rattle.meaning.specs.declared.Kind.{Kind}
@@ -20,56 +19,47 @@ use Rattle.grammar.specs.Pair.{chosen}
 use Rattle.grammar.proofs.Body as B
 use Rattle.grammar.proofs.Sights as G
 use Rattle.grammar.proofs.Insides as N
-use Rattle.strict.specs.Words.{choose}
+use Rattle.strict.specs.Words.{among}
 use Rattle.strict.specs.Rows.{list32}
 use Rattle.strict.specs.Lists.{Row, nothing, pushes}
 use Rattle.strict.specs.Inner as I
 use Rattle.strict.specs.Views as C
-use Rattle.strict.specs.Whole.{Entire, view_of, view}
-use Rattle.strict.specs.Plain.{padding, seen, said}
-use Rattle.strict.proofs.Items.{num_is}
-use Rattle.strict.proofs.Picking.{choose_label}
-use Rattle.strict.proofs.Together.{Same, neither, Named, along, convey, onto, label, closing, close, ended, ended_then}
+use Rattle.strict.specs.Whole.{Plain, view_of, view}
+use Rattle.strict.specs.Plain.{seen}
+use Rattle.strict.specs.Laws.{num_is}
+use Rattle.strict.proofs.Picking.{pick_label}
+use Rattle.strict.proofs.Together.{Same, Named, along, convey, onto, label, alike, closing, close, ended, ended_then}
 use Rattle.strict.proofs.Endings.{small_list, entry_list}
-use Rattle.strict.proofs.Bridge.{marked, Tens~, tensor_is}
+use Rattle.strict.proofs.Bridge.{Tens~, tensor_is}
 
 -- ── the tensor view, and the padding before it ──
 pub record Sight~ (v : G.Sight) (c : C.Seen) : Type 0 where
-  pub padding : v.padding ≡ padding c.padded c.pad
+  pub padding : v.padding ≡ c.padding
   pub tens : Tens~ v.tens c.tensor
 
-abbrev pad_said : ℕ → Padding
-pad_said k = padding true k
-
-abbrev mid_of : Bool → G.Mid
-mid_of true = G.padded
-mid_of false = G.bare
-
-abbrev mid_said : ℕ → G.Mid
-mid_said k = mid_of (ltb k 2)
+abbrev mid_said : Bool → G.Mid
+mid_said true = G.padded
+mid_said false = G.bare
 
 -- after a padding's name: the comma and the introduction
-led_is : (p : Padding) (k : ℕ) → p ≡ pad_said k → (t : List ℕ) →
-    Same Sight~ (after (λ (u : Unit {0}) x. mapped (G.sight p) ((B.tensor_inside).read x)) ((G.lead).read t)) (C.led k t)
-led_is p k e t = along (λ (u : Unit {0}) x. mapped (G.sight p) ((B.tensor_inside).read x)) (λ (n : ℕ) x. mapped (C.seen true k) (I.tensor x))
-    (label (λ (n : ℕ). tt) ((G.lead).read t) (choose C.leads t) (choose_label (λ (n : ℕ). tt) C.leads t))
-    (λ u n r h. convey (G.sight p) (C.seen true k) (tensor_is r) (λ a b q. record { padding = e; tens = q }))
+led_is : (p : Padding) (t : List ℕ) → Same Sight~ (after (λ (u : Unit {0}) x. mapped (G.sight p) ((B.tensor_inside).read x)) ((G.lead).read t)) (C.led p t)
+unfolding among
+led_is p t = along (λ (u : Unit {0}) x. mapped (G.sight p) ((B.tensor_inside).read x)) (λ (u : Unit {0}) x. mapped (C.seen p) (I.tensor x))
+    (alike ((G.lead).read t) (among C.leads t) refl)
+    (λ u v r h. convey (G.sight p) (C.seen p) (tensor_is r) (λ a b q. record { padding = refl; tens = q }))
 
-sight_is : (k : ℕ) (t : List ℕ) → Same Sight~ ((G.tens_part (mid_said k)).read t) (C.sight k t)
-unfolding C.sight
-sight_is k t = by (ltb k 2)
-  where
-    by : (b : Bool) → Same Sight~ ((G.tens_part (mid_of b)).read t) (cond b (after C.led (choose C.pads t)) (mapped (C.seen false 0) (I.tensor t)))
-    by true = along (λ (p : Padding) r. after (λ (u : Unit {0}) x. mapped (G.sight p) ((B.tensor_inside).read x)) ((G.lead).read r)) C.led
-        (label pad_said ((G.padded_names).read t) (choose C.pads t) (choose_label pad_said C.pads t)) (λ p k r h. led_is p k h r)
-    by false = convey (G.sight P.Absent) (C.seen false 0) (tensor_is t) (λ a b q. record { padding = refl; tens = q })
+sight_is : (b : Bool) (t : List ℕ) → Same Sight~ ((G.tens_part (mid_said b)).read t) (C.sight b t)
+unfolding C.sight among
+sight_is true t = along (λ (p : Padding) r. after (λ (u : Unit {0}) x. mapped (G.sight p) ((B.tensor_inside).read x)) ((G.lead).read r)) C.led
+    (alike ((G.padded_names).read t) (among C.pads t) refl) (λ p q r h. subst (λ (z : Padding). Same Sight~ (after (λ (u : Unit {0}) x. mapped (G.sight z) ((B.tensor_inside).read x)) ((G.lead).read r)) (C.led q r)) (sym h) (led_is q r))
+sight_is false t = convey (G.sight P.Absent) (C.seen P.Absent) (tensor_is t) (λ a b q. record { padding = refl; tens = q })
 
 -- ── a list, and the tensor view ──
 pub record Staged : Type 0 where
-  pub list : Row
+  pub list : Row ℤ
   pub sight : C.Seen
 
-abbrev stage' : Row → C.Seen → Staged
+abbrev stage' : Row ℤ → C.Seen → Staged
 stage' l v = record { list = l; sight = v }
 
 abbrev scene : Bool → List ℕ → Answer Staged
@@ -82,7 +72,7 @@ pub record Scene~ (v : G.Scene) (c : Staged) : Type 0 where
 abbrev stage : Ended ℤ G.Mid → List ℕ → Answer G.Scene
 stage e x = mapped (G.scene e) ((G.tens_part e.last).read x)
 
-staged : (zs : List ℤ) (m : G.Mid) (k : ℕ) (x : List ℕ) → m ≡ mid_said k → Same Scene~ (stage (closing zs m) x) (mapped (stage' (pushes nothing zs)) (C.sight k x))
+staged : (zs : List ℤ) (m : G.Mid) (k : Bool) (x : List ℕ) → m ≡ mid_said k → Same Scene~ (stage (closing zs m) x) (mapped (stage' (pushes nothing zs)) (C.sight k x))
 staged zs m k x h = subst (λ (m : G.Mid). Same Scene~ (stage (closing zs m) x) (mapped (stage' (pushes nothing zs)) (C.sight k x))) (sym h)
     (convey (G.scene (closing zs (mid_said k))) (stage' (pushes nothing zs)) (sight_is k x) (λ a b q. record { list = refl; sight = q }))
 
@@ -91,12 +81,12 @@ scene_by : (b : Bool) (q : List ℕ → Answer G.Mid) → ((x : List ℕ) → Sa
 scene_by b q h t = ended_then q (C.mid b) h stage (λ l k x. mapped (stage' l) (C.sight k x)) staged (list32 b t)
 
 tile_mid : (t : List ℕ) → Same (Named mid_said) ((G.mid 41 tt).read t) (C.mid true t)
-unfolding C.mid
-tile_mid t = label mid_said ((G.mid 41 tt).read t) (choose C.mids t) (choose_label mid_said C.mids t)
+unfolding C.mid among
+tile_mid t = label mid_said ((G.mid 41 tt).read t) (among C.mids t) (pick_label mid_said t C.mids)
 
 walk_mid : (t : List ℕ) → Same (Named mid_said) ((G.mid 93 tt).read t) (C.mid false t)
-unfolding C.mid
-walk_mid t = label mid_said ((G.mid 93 tt).read t) (choose C.walk_mids t) (choose_label mid_said C.walk_mids t)
+unfolding C.mid among
+walk_mid t = label mid_said ((G.mid 93 tt).read t) (among C.walk_mids t) (pick_label mid_said t C.walk_mids)
 
 tile_scene_is : (t : List ℕ) → Same Scene~ ((N.tile_scene).read t) (scene true t)
 tile_scene_is t = subst (λ (p : Answer (Ended ℤ G.Mid)). Same Scene~ (after stage p) (scene true t)) (sym (entry_list (G.mid 41 tt) tt tt refl tt t)) (scene_by true (G.mid 41 tt).read tile_mid t)
@@ -105,37 +95,27 @@ walk_scene_is : (t : List ℕ) → Same Scene~ ((N.walk_scene).read t) (scene fa
 walk_scene_is t = subst (λ (p : Answer (Ended ℤ G.Mid)). Same Scene~ (after stage p) (scene false t)) (sym (small_list (G.mid 93 tt) tt tt refl t)) (scene_by false (G.mid 93 tt).read walk_mid t)
 
 -- ── the ends ──
-abbrev pub Map~ : Ended ℤ (Unit {0}) → Row → Type 0
+abbrev pub Map~ : Ended ℤ (Unit {0}) → Row ℤ → Type 0
 Map~ e l = pushes nothing e.items ≡ l
 
 map_list_is : (t : List ℕ) → Same Map~ ((N.map_list).read t) (after C.map_tail (C.entries false t))
+unfolding among
 map_list_is t = subst (λ (p : Answer (Ended ℤ (Unit {0}))). Same Map~ p (after C.map_tail (C.entries false t))) (sym (small_list N.map_end tt tt refl t))
-    (ended (N.map_end).read (choose (bytes "]>|")) (λ x. label (λ (k : ℕ). tt) ((N.map_end).read x) (choose (bytes "]>|") x) (choose_label (λ (k : ℕ). tt) (bytes "]>|") x)) (λ l k. l)
+    (ended (N.map_end).read (among ((bytes "]>" ↝ tt) ∷ [])) (λ x. alike ((N.map_end).read x) (among ((bytes "]>" ↝ tt) ∷ []) x) refl) (λ l k. l)
     (λ zs b k h. refl) (list32 false t))
 
 map_part_is : (t : List ℕ) → Same Map~ ((N.map_part).read t) (C.map_part t)
-unfolding C.map_part
+unfolding C.map_part among
 map_part_is t = along (λ (s : Bool). (N.map_list).read) C.map_from
-    (label marked (pick t (listed (N.after_comma (bytes "dim_map=[")) (λ (s : Bool). s) two)) (choose C.maps t) (choose_label marked C.maps t)) (λ s k r h. map_list_is r)
+    (alike (pick t (listed (N.after_comma (bytes "dim_map=[")) (λ (s : Bool). s) two)) (among C.maps t) refl) (λ s k r h. map_list_is r)
 
 sparse_part_is : (t : List ℕ) → Same ◌≡◌ ((N.sparse_part).read t) (C.sparse_part t)
-unfolding C.sparse_part
+unfolding C.sparse_part among
 sparse_part_is t = along (λ (s : Bool). (N.sparse_last).read) C.sparse_from
-    (label marked (pick t (listed (N.after_comma (bytes "sparse_dim=")) (λ (s : Bool). s) two)) (choose C.sparses t) (choose_label marked C.sparses t)) (λ s k r h. last r)
+    (alike (pick t (listed (N.after_comma (bytes "sparse_dim=")) (λ (s : Bool). s) two)) (among C.sparses t) refl) (λ s k r h. last r)
   where
-    end : (z : ℤ) (r : List ℕ) → Same ◌≡◌ (pick r ((bytes ">" ↝ z) ∷ [])) (C.sparse_tail z r)
-    end z r = label (λ (y : ℤ). y) (pick r ((bytes ">" ↝ z) ∷ [])) (C.sparse_tail z r) (choose_label (λ (k : ℕ). z) (bytes ">|") r ∙ again (C.sparse_tail z r))
-      where
-        again : (p : Answer ℤ) → p ≡ mapped (λ (y : ℤ). y) p
-        again (got y r) = refl
-        again (stuck r) = refl
-
     last : (r : List ℕ) → Same ◌≡◌ ((N.sparse_last).read r) (after C.sparse_tail (C.small r))
-    last r = subst (λ (p : Answer ℤ). Same ◌≡◌ (after (λ z x. pick x ((bytes ">" ↝ z) ∷ [])) p) (after C.sparse_tail (C.small r))) (sym (num_is r)) (each (C.small r))
-      where
-        each : (p : Answer ℤ) → Same ◌≡◌ (after (λ z x. pick x ((bytes ">" ↝ z) ∷ [])) p) (after C.sparse_tail p)
-        each (got z x) = end z x
-        each (stuck x) = neither x
+    last r = alike ((N.sparse_last).read r) (after C.sparse_tail (C.small r)) (ap (after (λ z x. pick x ((bytes ">" ↝ z) ∷ []))) (num_is r))
 
 pub record Ends~ (m : List ℤ) (z : ℤ) (c : C.Closed) : Type 0 where
   pub map : pushes nothing m ≡ c.map
@@ -151,15 +131,15 @@ sparse_end_is t = onto (C.closed nothing) (sparse_part_is t) (λ z y q. record {
 
 -- ── the views ──
 abbrev pub View~ : Kind → Any → C.Viewed → Type 0
-View~ k a c = seen a ≡ said (view_of k c)
+View~ k a c = seen a ≡ view_of k c
 
-view~ : (k : Kind) (tl m w : List ℤ) (v : G.Sight) (z : ℤ) (c : C.Seen) (l : Row) (lm lw : Row) (y : ℤ) → pushes nothing tl ≡ l → Sight~ v c → pushes nothing m ≡ lm → pushes nothing w ≡ lw → z ≡ y →
+view~ : (k : Kind) (tl m w : List ℤ) (v : G.Sight) (z : ℤ) (c : C.Seen) (l : Row ℤ) (lm lw : Row ℤ) (y : ℤ) → pushes nothing tl ≡ l → Sight~ v c → pushes nothing m ≡ lm → pushes nothing w ≡ lw → z ≡ y →
     View~ k (N.sighted k tl v m w z) (C.viewed l c lm lw y)
 view~ k tl m w v z c l lm lw y a s b d e = λ j. record {
   kind = k;
-  element = s.tens.element j;
   pointer = false;
-  attribute = s.tens.mark j;
+  element = s.tens.element j;
+  marked = s.tens.mark j;
   shape = s.tens.shape j;
   strides = s.tens.strides j;
   tile = a j;
@@ -173,7 +153,7 @@ view~ k tl m w v z c l lm lw y a s b d e = λ j. record {
 abbrev bare : Bool → List ℕ → Answer C.Viewed
 bare b t = after (λ c r. mapped (λ e. C.viewed c.list c.sight e.map nothing e.sparse) (C.ending b r)) (scene true t)
 
-abbrev walk_rest : Row → List ℕ → Answer C.Viewed
+abbrev walk_rest : Row ℤ → List ℕ → Answer C.Viewed
 walk_rest l t = after (λ c r. mapped (λ e. C.viewed l c.sight e.map c.list e.sparse) (C.ending false r)) (scene false t)
 
 partition_is : (t : List ℕ) → Same (View~ K.Partition) ((N.partition_inside).read t) (bare false t)
@@ -198,22 +178,23 @@ abbrev travel : Piece false (bytes ")") (Unit {0}) quiet
 travel = chosen quiet (bytes ")") N.travel_word (λ (s : Bool). tt) two in_two tt
 
 abbrev strided : List ℕ → Answer C.Viewed
-strided t = after (λ l r. after (λ (k : ℕ) x. walk_rest l x) (choose C.travels r)) (C.entries true t)
+strided t = after (λ l r. after (λ (k : Bool) x. walk_rest l x) (among C.travels r)) (C.entries true t)
 
 strided_is : (t : List ℕ) → Same (View~ K.Strided) ((N.strided_inside).read t) (strided t)
+unfolding among
 strided_is t = subst (λ (p : Answer (Ended ℤ (Unit {0}))). Same (View~ K.Strided) (after (λ e. (N.walk_rest e.items).read) p) (strided t)) (sym (entry_list travel tt tt refl tt t))
-    (ended_then travel.read (choose C.travels) (λ x. label (λ (k : ℕ). tt) (travel.read x) (choose C.travels x) (choose_label (λ (k : ℕ). tt) C.travels x))
-    (λ e. (N.walk_rest e.items).read) (λ l (k : ℕ) x. walk_rest l x) (λ zs b k x h. walk_rest_is zs x) (list32 true t))
+    (ended_then travel.read (among C.travels) (λ x. label (λ (k : Bool). tt) (travel.read x) (among C.travels x) (pick_label (λ (k : Bool). tt) x C.travels))
+    (λ e. (N.walk_rest e.items).read) (λ l (k : Bool) x. walk_rest l x) (λ zs b k x h. walk_rest_is zs x) (list32 true t))
 
 -- ── the views as the code reads them: one part after another ──
-module _ (k : Kind) (m : List ℕ → Answer ℕ) (e : List ℕ → Answer C.Closed) (h : Row → C.Seen → C.Closed → C.Viewed) where
-  abbrev last_part : Row → C.Seen → List ℕ → Answer Entire
+module _ (k : Kind) (m : List ℕ → Answer Bool) (e : List ℕ → Answer C.Closed) (h : Row ℤ → C.Seen → C.Closed → C.Viewed) where
+  abbrev last_part : Row ℤ → C.Seen → List ℕ → Answer Plain
   last_part l v z = mapped (λ c. view_of k (h l v c)) (e z)
 
   abbrev ended_with : Staged → List ℕ → Answer C.Viewed
   ended_with c r = mapped (h c.list c.sight) (e r)
 
-  flat : (p : Answer Row) →
+  flat : (p : Answer (Row ℤ)) →
       mapped (view_of k) (after ended_with (after (λ l r. after (λ j y. mapped (stage' l) (C.sight j y)) (m r)) p)) ≡ after (λ l r. after (λ j y. after (last_part l) (C.sight j y)) (m r)) p
   flat (got l r) = on_mid (m r)
     where
@@ -225,7 +206,7 @@ module _ (k : Kind) (m : List ℕ → Answer ℕ) (e : List ℕ → Answer C.Clo
       on_sight (got v z) = on_end v (e z)
       on_sight (stuck z) = refl
 
-      on_mid : (q : Answer ℕ) → mapped (view_of k) (after ended_with (after (λ j y. mapped (stage' l) (C.sight j y)) q)) ≡ after (λ j y. after (last_part l) (C.sight j y)) q
+      on_mid : (q : Answer Bool) → mapped (view_of k) (after ended_with (after (λ j y. mapped (stage' l) (C.sight j y)) q)) ≡ after (λ j y. after (last_part l) (C.sight j y)) q
       on_mid (got j y) = on_sight (C.sight j y)
       on_mid (stuck y) = refl
   flat (stuck r) = refl
@@ -238,28 +219,28 @@ strided_view : (t : List ℕ) → mapped (view_of K.Strided) (strided t) ≡ vie
 unfolding C.walking
 strided_view t = on (C.entries true t)
   where
-    part : Row → Row → List ℕ → Answer Entire
+    part : Row ℤ → Row ℤ → List ℕ → Answer Plain
     part l w x = after (λ j y. after (λ v z. mapped (λ c. view_of K.Strided (C.viewed l v c.map w c.sparse)) (C.ending false z)) (C.sight j y)) (C.mid false x)
 
-    on_word : (l : Row) (q : Answer ℕ) → mapped (view_of K.Strided) (after (λ (k : ℕ) x. walk_rest l x) q) ≡ after (part l) (after (λ (k : ℕ) x. C.entries false x) q)
+    on_word : (l : Row ℤ) (q : Answer Bool) → mapped (view_of K.Strided) (after (λ (k : Bool) x. walk_rest l x) q) ≡ after (part l) (after (λ (k : Bool) x. C.entries false x) q)
     on_word l (got n x) = flat K.Strided (C.mid false) (C.ending false) (λ w v c. C.viewed l v c.map w c.sparse) (C.entries false x)
     on_word l (stuck x) = refl
 
-    on : (p : Answer Row) → mapped (view_of K.Strided) (after (λ l r. after (λ (k : ℕ) x. walk_rest l x) (choose C.travels r)) p)
-        ≡ after (λ l r. after (part l) (after (λ (k : ℕ) x. C.entries false x) (choose C.travels r))) p
-    on (got l r) = on_word l (choose C.travels r)
+    on : (p : Answer (Row ℤ)) → mapped (view_of K.Strided) (after (λ l r. after (λ (k : Bool) x. walk_rest l x) (among C.travels r)) p)
+        ≡ after (λ l r. after (part l) (after (λ (k : Bool) x. C.entries false x) (among C.travels r))) p
+    on (got l r) = on_word l (among C.travels r)
     on (stuck r) = refl
 
 -- each of the three, and its piece
 module _ (r : List ℕ) where
-  viewed_is : (k : Kind) {p : Answer Any} {q : Answer C.Viewed} (w : Answer Entire) → mapped (view_of k) q ≡ w → Same (View~ k) p q → Same (λ a c. seen a ≡ said c) (mapped B.id p) w
-  viewed_is k {p} w e s = subst (Same (λ a c. seen a ≡ said c) (mapped B.id p)) e (convey B.id (view_of k) s (λ a c h. h))
+  viewed_is : (k : Kind) {p : Answer Any} {q : Answer C.Viewed} (w : Answer Plain) → mapped (view_of k) q ≡ w → Same (View~ k) p q → Same (λ a c. seen a ≡ c) (mapped B.id p) w
+  viewed_is k {p} w e s = subst (Same (λ a c. seen a ≡ c) (mapped B.id p)) e (convey B.id (view_of k) s (λ a c h. h))
 
-  pub partition_view_is : Same (λ a c. seen a ≡ said c) (mapped B.id ((N.partition_inside).read r)) (view K.Partition true false r)
+  pub partition_view_is : Same (λ a c. seen a ≡ c) (mapped B.id ((N.partition_inside).read r)) (view K.Partition true false r)
   partition_view_is = viewed_is K.Partition (view K.Partition true false r) (bare_view K.Partition false r) (partition_is r)
 
-  pub gather_view_is : Same (λ a c. seen a ≡ said c) (mapped B.id ((N.gather_inside).read r)) (view K.GatherScatter true true r)
+  pub gather_view_is : Same (λ a c. seen a ≡ c) (mapped B.id ((N.gather_inside).read r)) (view K.GatherScatter true true r)
   gather_view_is = viewed_is K.GatherScatter (view K.GatherScatter true true r) (bare_view K.GatherScatter true r) (gather_is r)
 
-  pub strided_view_is : Same (λ a c. seen a ≡ said c) (mapped B.id ((N.strided_inside).read r)) (view K.Strided false false r)
+  pub strided_view_is : Same (λ a c. seen a ≡ c) (mapped B.id ((N.strided_inside).read r)) (view K.Strided false false r)
   strided_view_is = viewed_is K.Strided (view K.Strided false false r) (strided_view r) (strided_is r)

@@ -1,34 +1,46 @@
--- One part after another: what the first answers is handed on, by cases on whether it is stuck.
-use Prim.Native.Nat.{ℕ, ◌+◌, ◌-◌}
-use mathlib.Core.Bool.{Bool, true, false, cond}
-use lib.Dec.{leb}
+-- One part after another: where the first is stuck all is, else the second reads on from its end.
+use Prim.Native.Nat.{ℕ, ◌≤◌}
+use native.Mathlib.Omega.{arith}
 use mathlib.Core.List.{List}
-use mathlib.Core.Path.{◌≡◌, refl, ap, ◌∙◌}
+use mathlib.Core.Path.{◌≡◌, subst, sym, ap, ◌∙◌}
 use lib.ListN.{drop, length}
-use Rattle.grammar.specs.Piece.{Answer, stuck}
+use Rattle.std.specs.Prelude.{Result, Ok, Err}
+use Rattle.std.specs.Result.{IsErrAnd}
+use Rattle.grammar.specs.Piece.{Answer, got}
 use Rattle.grammar.specs.Join.{mapped, after}
-use Rattle.strict.specs.Cursor.{valued}
-use Rattle.strict.specs.Words.{next}
-use Rattle.strict.proofs.Cursors.{hand}
-use Rattle.strict.proofs.Numbers.{mapped_valued}
+use Rattle.strict.specs.Cursor.{Told}
+use Rattle.strict.specs.declared.cursor.Read.{Read}
+use Rattle.strict.specs.declared.cursor.Stuck.{Stuck}
 
-module _ {A B : Type 0} (s : List ℕ) (g : List ℕ → Answer A) where
-  next_after : (f : A → List ℕ → Answer B) (e : ℕ) → next s (λ x. after f (g x)) e ≡ after f (next s g e)
-  next_after f e = by (leb e (length s))
-    where
-      by : (k : Bool) → cond k (after f (g (drop e s))) (stuck (drop (e - (length s + 1)) s)) ≡ after f (cond k (g (drop e s)) (stuck (drop (e - (length s + 1)) s)))
-      by true = refl
-      by false = refl
+-- what a `?` hands out
+module _ {B W : Type 0} {k : W → B} {s : List ℕ} {at : ℕ} {q : Answer B} where
+  pub handed : {e : Stuck} → Told s at q k (Err e) → {r : Result (Read W) Stuck} → IsErrAnd r (λ x. x ≡ e) → Told s at q k r
+  handed t {r = Ok x} i = absurd i
+  handed t {r = Err x} i = subst (λ (y : Stuck). Told s at q k (Err y)) (sym i) t
 
-  next_mapped : (h : A → B) (e : ℕ) → next s (λ x. mapped h (g x)) e ≡ mapped h (next s g e)
-  next_mapped h e = by (leb e (length s))
-    where
-      by : (k : Bool) → cond k (mapped h (g (drop e s))) (stuck (drop (e - (length s + 1)) s)) ≡ mapped h (cond k (g (drop e s)) (stuck (drop (e - (length s + 1)) s)))
-      by true = refl
-      by false = refl
+  -- the same answer in other words
+  pub same_as : {p : Answer B} {r : Result (Read W) Stuck} → q ≡ p → Told s at p k r → Told s at q k r
+  same_as e t = record { same = e ∙ t.same; inside = t.inside; onward = t.onward }
 
-  pub chain : (f : A → List ℕ → Answer B) (a : A) (from e : ℕ) → next s g from ≡ valued s a e → next s (λ x. after f (g x)) from ≡ next s (f a) e
-  chain f a from e h = next_after f from ∙ ap (after f) h ∙ hand s f a e
+module _ {A V : Type 0} {f : V → A} {s : List ℕ} {at : ℕ} {p : Answer A} where
+  module _ {B W : Type 0} (h : A → List ℕ → Answer B) {k : W → B} where
+    -- stuck in the first part
+    pub stops : {e : Stuck} → Told s at p f (Err e) → {r : Result (Read W) Stuck} → IsErrAnd r (λ x. x ≡ e) → Told s at (after h p) k r
+    stops {e} t i = handed (record { same = ap (after h) t.same; inside = t.inside; onward = t.onward }) i
 
-  pub last : (h : A → B) (a : A) (from e : ℕ) → next s g from ≡ valued s a e → next s (λ x. mapped h (g x)) from ≡ valued s (h a) e
-  last h a from e k = next_mapped h from ∙ ap (mapped h) k ∙ mapped_valued h s a e
+    -- past it
+    pub goes : {a : Read V} → Told s at p f (Ok a) → {r : Result (Read W) Stuck} → Told s a.end (h (f a.value) (drop a.end s)) k r → Told s at (after h p) k r
+    goes {a} t u = let m = t.onward in let n = u.onward in record { same = ap (after h) t.same ∙ u.same; inside = u.inside; onward = omega arith }
+
+  module _ {B W : Type 0} (h : A → B) {k : W → B} where
+    -- the last part
+    pub halts : {e : Stuck} → Told s at p f (Err e) → {r : Result (Read W) Stuck} → IsErrAnd r (λ x. x ≡ e) → Told s at (mapped h p) k r
+    halts {e} t i = handed (record { same = ap (mapped h) t.same; inside = t.inside; onward = t.onward }) i
+
+    pub ends : {a : Read V} → Told s at p f (Ok a) → {w : W} → h (f a.value) ≡ k w → Told s at (mapped h p) k (Ok (record { value = w; end = a.end }))
+    ends {a} t e = record { same = ap (mapped h) t.same ∙ ap (λ (y : B). got y (drop a.end s)) e; inside = t.inside; onward = t.onward }
+
+-- nothing more is read
+module _ {B W : Type 0} {k : W → B} {s : List ℕ} {at : ℕ} where
+  pub done : {b : B} {w : W} → b ≡ k w → at ≤ length s → Told s at (got b (drop at s)) k (Ok (record { value = w; end = at }))
+  done e h = record { same = ap (λ (y : B). got y (drop at s)) e; inside = h; onward = omega arith }

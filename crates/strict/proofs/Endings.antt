@@ -14,7 +14,7 @@ use Rattle.grammar.proofs.Several.{num32, dim64, x32}
 use Rattle.strict.specs.Cursor.{numeral, dimension}
 use Rattle.strict.specs.Rows.{more, commas32, xs32, parts32, commas64, tail32, list32, list64}
 use Rattle.strict.proofs.Rows as R
-use Rattle.strict.proofs.Items.{item32, item64, num_is, dim_is, parts32_are}
+use Rattle.strict.specs.Laws.{item32, item64, num_is, dim_is, commas32_are, turn}
 use Rattle.strict.proofs.Together.{closing, close}
 
 module _ {G : List ℕ} {B : Type 0} {E : B → List ℕ} (Q : Piece false G B E) (sepc : T (apart G (bytes ","))) (sept : T (apart G ten)) (nil : Q.read [] ≡ stuck []) where
@@ -36,14 +36,14 @@ module _ {G : List ℕ} {B : Type 0} {E : B → List ℕ} (Q : Piece false G B E
 
     at_x : (t : List ℕ) → x_joined (120 ∷ t) ≡ after (close Q.read) (xs32 (120 ∷ t))
     unfolding xs32
-    at_x t = R.list x32 Q sepx (λ a. sept) nil (x32.read (120 ∷ t)) ∙ sym (ap (after (close Q.read)) (R.turn x32 120 t))
+    at_x t = R.list x32 Q sepx (λ a. sept) nil (x32.read (120 ∷ t)) ∙ sym (ap (after (close Q.read)) (turn x32 120 t))
 
     at_comma : (t : List ℕ) → by_comma t ≡ after (close Q.read) (commas32 t)
     unfolding commas32
     at_comma t = R.parts item32 Q sepc (λ a. sept) nil t
 
     tail : (t : List ℕ) → fork (bytes "x") x_joined by_comma t ≡ after (close Q.read) (tail32 true t)
-    tail [] = sym (ap (after (close Q.read)) (parts32_are false).nil ∙ ap (mapped (closing [])) nil)
+    tail [] = sym (ap (after (close Q.read)) commas32_are.nil ∙ ap (mapped (closing [])) nil)
     tail (c ∷ t) = by (eqb c 120) (eqb→eq c 120)
       where
         by : (k : Bool) → (T k → c ≡ 120) → cond (k || false) (x_joined (c ∷ t)) (by_comma (c ∷ t)) ≡ after (close Q.read) (parts32 k (c ∷ t))

@@ -1,52 +1,35 @@
 -- Laws of the answer: lists as rows, the record and the judgement of what was read, and the refusals in their order.
 use Rattle.std.specs.Prelude.{if◌then◌else◌, None, Some}
-use Prim.Native.Nat.{ℕ, zero, suc, ◌+◌, ◌-◌, ◌≤◌, ◌<◌}
+use Prim.Native.Nat.{ℕ, ◌+◌, ◌≤◌, ◌<◌}
 use native.Mathlib.Omega.{arith}
-use mathlib.Core.Bool.{Bool, true, false, cond, ◌&&◌}
+use mathlib.Core.Bool.{true, false, ◌&&◌}
 use mathlib.Core.List.{List, [], ◌∷◌, ◌++◌, append_assoc, append-nil}
 use mathlib.Core.Path.{◌≡◌, refl, sym, ap, subst, ◌∙◌}
-use borrow.Author.Tests.{le-leb, lt-leb, leb-true}
+use borrow.Author.Tests.{le-leb, lt-leb}
 use lib.Dec.{leb}
 use lib.IntN.{ℤ}
-use lib.ListN.{length, drop, get_or, length-append, drop_of_length-le}
+use lib.ListN.{length, drop, length-append, drop_of_length-le}
 use Rattle.lexis.specs.Text.{Text}
-use Rattle.scalars.specs.declared.scalar.Scalar.{Scalar}
 use Rattle.meaning.proofs.Slots.{slot}
-use Rattle.meaning.specs.declared.Padding.{Padding}
 use Rattle.meaning.specs.declared.Reading.{Reading}
 use Rattle.meaning.specs.declared.Refusal.TheVariants.{Accepted, TooLong, HighByte, NotStrict, TooMany}
 use Rattle.meaning.specs.Found.{padded}
 use Rattle.meaning.specs.Refusals.{number}
 use Rattle.meaning.specs.Ordinary.{high_from, refused}
 use Rattle.meaning.specs.Meant.{Any, fits, flat_any, taken, Strictly}
-use Rattle.meaning.specs.Strict.{nth}
 use Rattle.grammar.specs.Piece.{Answer, got, stuck}
 use Rattle.grammar.specs.Join.{mapped}
 use Rattle.grammar.proofs.Whole as G
 use Rattle.grammar.proofs.Answer.{judge, answer, answer_ascii, answer_right}
 use Rattle.grammar.proofs.Printed.{strict_low}
-use Rattle.strict.specs.Cursor.{valued}
 use Rattle.strict.specs.Lists.{Row, nothing, pushes}
 use Rattle.strict.specs.Whole as W
 use Rattle.strict.specs.Plain as P
 use Rattle.lexis.proofs.Lists.{view}
 
--- ── the code's tables ──
-
-module _ {A : Type 0} (d : A) where
-  pub nth_in : (x : A) (xs : List A) (i : ℕ) → i < length xs → get_or xs i x ≡ nth d xs i
-  nth_in x [] i h = let f : ⊥ = omega arith in absurd f
-  nth_in x (y ∷ ys) zero h = refl
-  nth_in x (y ∷ ys) (suc i) h = nth_in x ys i (omega arith)
-
-  pub nth_out : (xs : List A) (i : ℕ) → length xs ≤ i → d ≡ nth d xs i
-  nth_out [] i h = refl
-  nth_out (x ∷ xs) zero h = let f : ⊥ = omega arith in absurd f
-  nth_out (x ∷ xs) (suc i) h = nth_out xs i (omega arith)
-
 -- ── rows ──
 
-abbrev row : List ℤ → Row
+abbrev row : List ℤ → Row ℤ
 row zs = record { values = padded 8 zs; len = length zs }
 
 one_more : (ys : List ℤ) (z : ℤ) → length ys + 1 ≡ length (ys ++ z ∷ [])
@@ -56,7 +39,7 @@ one_more ys z = sym (length-append ys (z ∷ []))
 rows : (ys zs : List ℤ) → pushes (row ys) zs ≡ row (ys ++ zs)
 rows ys [] = ap row (sym (append-nil ys))
 rows ys (z ∷ zs) =
-    ap (λ (l : Row). pushes l zs) (λ i. record { values = slot 8 ys z i; len = one_more ys z i })
+    ap (λ (l : Row ℤ). pushes l zs) (λ i. record { values = slot 8 ys z i; len = one_more ys z i })
     ∙ rows (ys ++ z ∷ []) zs ∙ ap row (append_assoc ys (z ∷ []) zs)
 
 row_is : (zs : List ℤ) → pushes nothing zs ≡ row zs
@@ -100,52 +83,22 @@ judged_is (got a []) = λ i. if small_is a i then accepted_is a i else refused 8
 judged_is (got a (c ∷ r)) = refl
 judged_is (stuck r) = refl
 
--- ── what the code read ──
+-- ── what the code read, up to its end ──
+module _ (s : Text) (e : W.Plain) (d : ℕ) where
+  pub other : d ≤ length s → (d ≡ length s → ⊥) → refused 8 NotStrict 0 ≡ P.judged (got e (drop d s))
+  other h n = let k : d < length s = omega arith in rw (view s d k)
 
--- its parts, of which the code makes three
-module _ (e : W.Entire) where
-  abbrev made : Scalar → ℤ → Padding → P.Plain
-  made k z p = record {
-    kind = e.kind;
-    element = k;
-    pointer = e.pointer;
-    attribute = e.marked;
-    shape = e.shape;
-    strides = e.strides;
-    tile = e.tile;
-    map = e.map;
-    walk = e.walk;
-    sparse = z;
-    padding = p;
-  }
+  pub too_many : d ≡ length s → P.small e ≡ false → refused 8 TooMany 0 ≡ P.judged (got e (drop d s))
+  too_many k n = let h : length s ≤ d = omega arith in rw (drop_of_length-le s h, n)
 
-  pub laid_is : {k : Scalar} {z : ℤ} {p : Padding} → k ≡ P.scalar e.word → z ≡ e.sparse → p ≡ P.padding e.padded e.pad
-      → P.record_of (made k z p) ≡ P.record_of (P.said e)
-  laid_is f g h = λ i. P.record_of (made (f i) (g i) (h i))
-
--- up to its end
-module _ (s : Text) (e : W.Entire) (d : ℕ) where
-  pub other : (d ≡ length s → ⊥) → refused 8 NotStrict 0 ≡ P.judged (mapped P.said (valued s e d))
-  other n = by (leb d (length s)) (leb-true d (length s))
-    where
-      by : (k : Bool) → (k ≡ true → d ≤ length s) → refused 8 NotStrict 0 ≡ P.judged (mapped P.said (cond k (got e (drop d s)) (stuck (drop (d - (length s + 1)) s))))
-      by true f = let h : d < length s = (let g = f refl in omega arith) in rw (view s d h)
-      by false f = refl
-
-  le_of : d ≡ length s → length s ≤ d
-  le_of k = omega arith
-
-  pub too_many : d ≡ length s → P.small (P.said e) ≡ false → refused 8 TooMany 0 ≡ P.judged (mapped P.said (valued s e d))
-  too_many k n = rw (le-leb d (length s) (omega arith), drop_of_length-le s (le_of k), n)
-
-  pub whole : d ≡ length s → P.small (P.said e) ≡ true → P.accepted (P.said e) ≡ P.judged (mapped P.said (valued s e d))
-  whole k n = rw (le-leb d (length s) (omega arith), drop_of_length-le s (le_of k), n)
+  pub whole : d ≡ length s → P.small e ≡ true → P.accepted e ≡ P.judged (got e (drop d s))
+  whole k n = let h : length s ≤ d = omega arith in rw (drop_of_length-le s h, n)
 
 -- ── the answer ──
 
 -- the code reads what the grammar reads
 abbrev pub Bridge : Type 0
-Bridge = (t : List ℕ) → mapped P.seen (G.read t) ≡ mapped P.said (W.whole t)
+Bridge = (t : List ℕ) → mapped P.seen (G.read t) ≡ W.whole t
 
 module _ (s : Text) {r : Reading} where
   pub strictly : r ≡ answer 8 1024 s → Strictly 8 1024 s r
@@ -162,11 +115,11 @@ module _ (s : Text) {r : Reading} where
   pub high_at : (i : ℕ) → length s ≤ 1024 → high_from 0 s ≡ Some i → r ≡ refused 8 HighByte i → r ≡ answer 8 1024 s
   high_at i h k e = ascii h (e ∙ sym (ap (answer_ascii 8 s) k))
 
-  pub read_on : Bridge → length s ≤ 1024 → high_from 0 s ≡ None → r ≡ P.judged (mapped P.said (W.whole s)) → r ≡ answer 8 1024 s
+  pub read_on : Bridge → length s ≤ 1024 → high_from 0 s ≡ None → r ≡ P.judged (W.whole s) → r ≡ answer 8 1024 s
   read_on bridge h k e = ascii h (e ∙ sym (ap P.judged (bridge s)) ∙ judged_is (G.read s) ∙ sym (ap (answer_ascii 8 s) k))
 
   -- what is accepted is a strict form, and has no high byte
-  pub taken_on : Bridge → length s ≤ 1024 → number r.refusal ≡ 0 → r ≡ P.judged (mapped P.said (W.whole s)) → r ≡ answer 8 1024 s
+  pub taken_on : Bridge → length s ≤ 1024 → number r.refusal ≡ 0 → r ≡ P.judged (W.whole s) → r ≡ answer 8 1024 s
   unfolding refused
   taken_on bridge h n e = read_on bridge h (low (G.read s) refl (ap (λ (x : Reading). number x.refusal) (sym (e ∙ sym (ap P.judged (bridge s)) ∙ judged_is (G.read s))) ∙ n)) e
     where

@@ -1,15 +1,11 @@
 -- The laws that the proofs of the functions cite.
-pub mod Cursors
 pub mod Numbers
+pub mod Chain
 pub mod Tree
 pub mod Picking
 pub mod Rows
-pub mod Items
 pub mod Listing
-pub mod Chain
 pub mod Insides
-pub mod Viewing
-pub mod Wholes
 pub mod Together
 pub mod Endings
 pub mod Bridge

@@ -2,7 +2,7 @@
 use Prim.Native.Nat.{ℕ, ◌+◌, ◌-◌, ◌*◌, ◌/◌, ◌^◌, ◌≤◌, ◌<◌}
 use native.Mathlib.Omega.{arith}
 use native.Mathlib.Nat.{div-add-mod, mod-lt, zero-lt-suc}
-use mathlib.Core.Bool.{Bool, true, false, cond, ◌&&◌, ◌||◌}
+use mathlib.Core.Bool.{Bool, true, false, ◌&&◌, ◌||◌}
 use mathlib.Core.List.{List, ◌∷◌}
 use mathlib.Core.Path.{◌≡◌, refl, sym, ap, ◌∙◌}
 use lib.Dec.{T, eqb, leb, ltb, leb→le, le→leb, ltb→lt, lt→ltb, not_T}
@@ -122,14 +122,6 @@ module _ (s : List ℕ) (i : ℕ) where
 
   pub space_off : i < length s → (get_or s i 0 ≡ 32 → ⊥) → C.skip (drop i s) ≡ drop i s
   space_off h e = rw (view s i h, ne_eqb 32 (get_or s i 0) (λ f. e (sym f)))
-
--- another value at the same place
-pub mapped_valued : {A B : Type 0} (f : A → B) (s : List ℕ) (a : A) (e : ℕ) → mapped f (C.valued s a e) ≡ C.valued s (f a) e
-mapped_valued f s a e = by (leb e (length s))
-  where
-    by : (k : Bool) → mapped f (cond k (got a (drop e s)) (stuck (drop (e - (length s + 1)) s))) ≡ cond k (got (f a) (drop e s)) (stuck (drop (e - (length s + 1)) s))
-    by true = refl
-    by false = refl
 
 -- ── a byte that a dimension begins with ──
 iff : (a b : Bool) → (T a → T b) → (T b → T a) → a ≡ b

@@ -1,4 +1,4 @@
--- A table with other values is read through the numbers of its words.
+-- A table whose words say other things is read alike.
 use Prim.Native.Nat.{ℕ}
 use mathlib.Core.Bool.{Bool, true, false, cond}
 use mathlib.Core.List.{List, [], ◌∷◌, ◌++◌}
@@ -8,11 +8,7 @@ use lib.Dec.{eqb}
 use Rattle.grammar.specs.Piece.{Answer}
 use Rattle.grammar.specs.Table.{Entry, ◌↝◌, rest_of, advance, or_done, done, settle, pick}
 use Rattle.grammar.specs.Join.{mapped}
-use Rattle.strict.specs.Words.{entries, choose}
-
-abbrev pub relabel : {A B : Type 0} → (A → B) → List (Entry A) → List (Entry B)
-relabel f [] = []
-relabel f (e ∷ es) = (e.word ↝ f e.value) ∷ relabel f es
+use Rattle.strict.specs.Words.{among, relabel}
 
 module _ {A B : Type 0} (f : A → B) where
   abbrev may : Option A → Option B
@@ -43,7 +39,7 @@ module _ {A B : Type 0} (f : A → B) where
   settle_label None r = refl
   settle_label (Some a) r = refl
 
-  pick_label : (t : List ℕ) (es : List (Entry A)) → pick t (relabel f es) ≡ mapped f (pick t es)
+  pub pick_label : (t : List ℕ) (es : List (Entry A)) → pick t (relabel f es) ≡ mapped f (pick t es)
   pick_label [] es = ap (λ (z : Option B). settle z []) (done_label es) ∙ settle_label (done es) []
   pick_label (c ∷ t) es = ap step (advance_label c es) ∙ by (advance c es) (λ e fs. pick_label t (e ∷ fs))
     where
@@ -55,7 +51,7 @@ module _ {A B : Type 0} (f : A → B) where
       by [] ih = ap (λ (z : Option B). settle z (c ∷ t)) (done_label es) ∙ settle_label (done es) (c ∷ t)
       by (e ∷ fs) ih = ih e fs
 
--- a table with other values is read through its numbers
-pub choose_label : {A : Type 0} (f : ℕ → A) (table t : List ℕ) → pick t (relabel f (entries table)) ≡ mapped f (choose table t)
-unfolding choose
-choose_label f table t = pick_label f t (entries table)
+-- the same words that say other things are read alike
+pub among_label : {A B : Type 0} (f : A → B) (es : List (Entry A)) (t : List ℕ) → among (relabel f es) t ≡ mapped f (among es t)
+unfolding among
+among_label f es t = pick_label f t es

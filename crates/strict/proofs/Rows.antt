@@ -1,48 +1,18 @@
--- Items one after the other: the equation of the list, whose fuel is enough; and a list with its end is its items, then its end.
-use Prim.Native.Nat.{ℕ, zero, suc, ◌≤◌, ◌<◌}
-use native.Mathlib.Omega.{arith}
-use native.Mathlib.Nat.{not-suc-le-zero}
+-- Items one after the other: a list with its end is its items, then its end.
+use Prim.Native.Nat.{ℕ, zero, suc}
 use mathlib.Core.Bool.{Bool, true, false, cond}
 use mathlib.Core.List.{List, [], ◌∷◌, ◌++◌}
-use mathlib.Core.Path.{◌≡◌, refl, subst, sym, ap, ◌∙◌}
+use mathlib.Core.Path.{◌≡◌, refl, sym, ap, ◌∙◌}
 use lib.Dec.{T}
 use lib.IntN.{ℤ}
 use lib.ListN.{length}
-use Rattle.grammar.specs.Piece.{member, apart, Answer, got, stuck, Good, Piece}
+use Rattle.grammar.specs.Piece.{member, apart, Answer, got, stuck, Piece}
 use Rattle.grammar.specs.Join.{mapped, after}
-use Rattle.grammar.specs.Until.{Ended, first, ended, shorter, loop, until_read}
+use Rattle.grammar.specs.Until.{Ended, first, ended, loop, until_read}
 use Rattle.strict.specs.Rows.{more, run, rows}
+use Rattle.strict.specs.Laws.{going}
 
 module _ {F : List ℕ} {E : ℤ → List ℕ} (P : Piece false F ℤ E) where
-  -- an item is not empty
-  pub less : (t r : List ℕ) (a : ℤ) → P.read t ≡ got a r → length r < length t
-  less t r a e = shorter P t r a (subst (Good P.In P.read t) e (P.good t))
-
-  abbrev going : ℕ → Answer ℤ → Answer (List ℤ)
-  going k p = after (λ z r. mapped (more z) (run P k r)) p
-
-  abbrev onto : Answer ℤ → Answer (List ℤ)
-  onto p = after (λ z r. mapped (more z) (rows P r)) p
-
-  step : (k m : ℕ) (t : List ℕ) (p : Answer ℤ) → Good P.In P.read t p → ((r : List ℕ) → length r < length t → run P k r ≡ run P m r) → going k p ≡ going m p
-  step k m t (got a r) g h = ap (mapped (more a)) (h r (shorter P t r a g))
-  step k m t (stuck r) g h = refl
-
-  enough : (k m : ℕ) (t : List ℕ) → length t < k → length t < m → run P k t ≡ run P m t
-  enough zero m t h g = absurd (not-suc-le-zero h)
-  enough (suc k) zero t h g = absurd (not-suc-le-zero g)
-  enough (suc k) (suc m) [] h g = refl
-  enough (suc k) (suc m) (c ∷ t) h g = ap (λ (z : Answer (List ℤ)). cond (member c F) z (got [] (c ∷ t)))
-      (step k m (c ∷ t) (P.read (c ∷ t)) (P.good (c ∷ t)) (λ r q. enough k m r (omega arith) (omega arith)))
-
-  last_step : (k : ℕ) (t : List ℕ) (p : Answer ℤ) → Good P.In P.read t p → length t ≤ k → going k p ≡ onto p
-  last_step k t (got a r) g h = let q = shorter P t r a g in ap (mapped (more a)) (enough k (suc (length r)) r (omega arith) (omega arith))
-  last_step k t (stuck r) g h = refl
-
-  -- the equation
-  pub turn : (c : ℕ) (t : List ℕ) → rows P (c ∷ t) ≡ cond (member c F) (onto (P.read (c ∷ t))) (got [] (c ∷ t))
-  turn c t = ap (λ (z : Answer (List ℤ)). cond (member c F) z (got [] (c ∷ t))) (last_step (suc (length t)) (c ∷ t) (P.read (c ∷ t)) (P.good (c ∷ t)) (omega arith))
-
   -- ── with its end ──
   module _ {G : List ℕ} {B : Type 0} {E' : B → List ℕ} (Q : Piece false G B E') (sep : T (apart G F)) (fol : (a : ℤ) → T (apart (F ++ G) (E a))) (nil : Q.read [] ≡ stuck []) where
     abbrev pub closing : List ℤ → B → Ended ℤ B
@@ -59,7 +29,7 @@ module _ {F : List ℕ} {E : ℤ → List ℕ} (P : Piece false F ℤ E) where
         by (stuck r) = refl
     one_more a (stuck x) = refl
 
-    each : (k : ℕ) (p : Answer ℤ) → ((r : List ℕ) → loop P Q sep fol k r ≡ after close (run P k r)) → after (λ a r. mapped (first a) (loop P Q sep fol k r)) p ≡ after close (going k p)
+    each : (k : ℕ) (p : Answer ℤ) → ((r : List ℕ) → loop P Q sep fol k r ≡ after close (run P k r)) → after (λ a r. mapped (first a) (loop P Q sep fol k r)) p ≡ after close (going P k p)
     each k (got a r) h = ap (mapped (first a)) (h r) ∙ one_more a (run P k r)
     each k (stuck r) h = refl
 
@@ -68,8 +38,8 @@ module _ {F : List ℕ} {E : ℤ → List ℕ} (P : Piece false F ℤ E) where
     all (suc k) [] = sym (ap (mapped (closing [])) nil)
     all (suc k) (c ∷ t) = by (member c F) (each k (P.read (c ∷ t)) (all k))
       where
-        by : (b : Bool) → after (λ a r. mapped (first a) (loop P Q sep fol k r)) (P.read (c ∷ t)) ≡ after close (going k (P.read (c ∷ t))) →
-            cond b (after (λ a r. mapped (first a) (loop P Q sep fol k r)) (P.read (c ∷ t))) (mapped ended (Q.read (c ∷ t))) ≡ after close (cond b (going k (P.read (c ∷ t))) (got [] (c ∷ t)))
+        by : (b : Bool) → after (λ a r. mapped (first a) (loop P Q sep fol k r)) (P.read (c ∷ t)) ≡ after close (going P k (P.read (c ∷ t))) →
+            cond b (after (λ a r. mapped (first a) (loop P Q sep fol k r)) (P.read (c ∷ t))) (mapped ended (Q.read (c ∷ t))) ≡ after close (cond b (going P k (P.read (c ∷ t))) (got [] (c ∷ t)))
         by true e = e
         by false e = refl
 

@@ -29,10 +29,18 @@ pub onto : {A B B' : Type 0} {R : A → B → Type 0} {S : A → B' → Type 0} 
 onto g (both a b r h) k = both a (g b) r (k a b h)
 onto g (neither r) k = neither r
 
--- both values in the same words
-pub told : {A B D : Type 0} {R : A → B → Type 0} (f : A → D) (g : B → D) {p : Answer A} {q : Answer B} → Same R p q → ((a : A) (b : B) → R a b → f a ≡ g b) → mapped f p ≡ mapped g q
-told f g (both a b r h) k = ap (λ z. got z r) (k a b h)
-told f g (neither r) k = refl
+-- the first in the words of the other
+pub told : {A B : Type 0} {R : A → B → Type 0} (f : A → B) {p : Answer A} {q : Answer B} → Same R p q → ((a : A) (b : B) → R a b → f a ≡ b) → mapped f p ≡ q
+told f (both a b r h) k = ap (λ z. got z r) (k a b h)
+told f (neither r) k = refl
+
+-- the same answer
+pub alike : {A : Type 0} (p q : Answer A) → p ≡ q → Same ◌≡◌ p q
+alike {A = A} p q e = subst (λ (z : Answer A). Same ◌≡◌ z q) (sym e) (self q)
+  where
+    self : (q : Answer A) → Same ◌≡◌ q q
+    self (got a r) = both a a r refl
+    self (stuck r) = neither r
 
 -- the first in the words of the second
 abbrev pub Named : {A B : Type 0} → (B → A) → A → B → Type 0
@@ -54,7 +62,7 @@ close q zs x = mapped (closing zs) (q x)
 
 module _ {B K D D' : Type 0} {S : B → K → Type 0} {U : D → D' → Type 0} (q : List ℕ → Answer B) (c : List ℕ → Answer K) (h : (x : List ℕ) → Same S (q x) (c x)) where
   -- and then more
-  pub ended_then : (f : Ended ℤ B → List ℕ → Answer D) (g : Row → K → List ℕ → Answer D') →
+  pub ended_then : (f : Ended ℤ B → List ℕ → Answer D) (g : Row ℤ → K → List ℕ → Answer D') →
       ((zs : List ℤ) (b : B) (k : K) (x : List ℕ) → S b k → Same U (f (closing zs b) x) (g (pushes nothing zs) k x)) →
       (p : Answer (List ℤ)) → Same U (after f (after (close q) p)) (after (λ l r. after (g l) (c r)) (mapped (pushes nothing) p))
   ended_then f g k (got zs r) = by (h r)
@@ -65,7 +73,7 @@ module _ {B K D D' : Type 0} {S : B → K → Type 0} {U : D → D' → Type 0} 
   ended_then f g k (stuck r) = neither r
 
 module _ {B K D : Type 0} {S : B → K → Type 0} {U : Ended ℤ B → D → Type 0} (q : List ℕ → Answer B) (c : List ℕ → Answer K) (h : (x : List ℕ) → Same S (q x) (c x)) where
-  pub ended : (g : Row → K → D) → ((zs : List ℤ) (b : B) (k : K) → S b k → U (closing zs b) (g (pushes nothing zs) k)) →
+  pub ended : (g : Row ℤ → K → D) → ((zs : List ℤ) (b : B) (k : K) → S b k → U (closing zs b) (g (pushes nothing zs) k)) →
       (p : Answer (List ℤ)) → Same U (after (close q) p) (after (λ l r. mapped (g l) (c r)) (mapped (pushes nothing) p))
   ended g k (got zs r) = by (h r)
     where

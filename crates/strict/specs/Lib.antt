@@ -2,8 +2,10 @@
 pub mod Cursor
 pub mod Words
 pub mod Rows
+pub mod Laws
 pub mod Lists
 pub mod Inner
+pub mod Heads
 pub mod Views
 pub mod Whole
 pub mod Plain

@@ -1,61 +1,20 @@
--- What the grammar and the code both say of a text: a type with its lists as rows. From it, the record and the answer.
-use Rattle.std.specs.Prelude.{if◌then◌else◌, ℕ, Bool, cond, ◌&&◌, [], ◌∷◌, leb, ℤ}
-use Rattle.scalars.specs.declared.scalar.Scalar.{Scalar}
-use Rattle.scalars.specs.declared.scalar.Scalar.TheVariants.{I1}
-use Rattle.meaning.specs.declared.Kind.{Kind}
-use Rattle.meaning.specs.declared.Padding.{Padding}
-use Rattle.meaning.specs.declared.Padding.TheVariants as P
+-- What the grammar says of a text, in the code's words. From it, the record and the answer.
+use Rattle.std.specs.Prelude.{if◌then◌else◌, Bool, ◌&&◌, [], ◌∷◌, leb}
 use Rattle.meaning.specs.declared.Record.{Record}
 use Rattle.meaning.specs.declared.Reading.{Reading}
 use Rattle.meaning.specs.declared.Refusal.TheVariants.{Accepted, NotStrict, TooMany}
-use Rattle.meaning.specs.Strict.{nth, scalars, paddings}
 use Rattle.meaning.specs.Meant.{Any}
 use Rattle.meaning.specs.Ordinary.{refused}
 use Rattle.grammar.specs.Piece.{Answer, got, stuck}
-use Rattle.strict.specs.Lists.{Row, nothing, pushes}
-use Rattle.strict.specs.Whole.{Entire}
-
-pub record Plain : Type 0 where
-  pub kind : Kind
-  pub element : Scalar
-  pub pointer : Bool
-  pub attribute : Bool
-  pub shape : Row
-  pub strides : Row
-  pub tile : Row
-  pub map : Row
-  pub walk : Row
-  pub sparse : ℤ
-  pub padding : Padding
-
-abbrev pub scalar : ℕ → Scalar
-scalar k = nth I1 scalars k
-
-abbrev pub padding : Bool → ℕ → Padding
-padding given k = cond given (nth P.Zero paddings k) P.Absent
-
--- of the code's type, and of the grammar's
-abbrev pub said : Entire → Plain
-said e = record {
-  kind = e.kind;
-  element = scalar e.word;
-  pointer = e.pointer;
-  attribute = e.marked;
-  shape = e.shape;
-  strides = e.strides;
-  tile = e.tile;
-  map = e.map;
-  walk = e.walk;
-  sparse = e.sparse;
-  padding = padding e.padded e.pad;
-}
+use Rattle.strict.specs.Lists.{nothing, pushes}
+use Rattle.strict.specs.Whole.{Plain}
 
 abbrev pub seen : Any → Plain
 seen a = record {
   kind = a.kind;
-  element = a.element;
   pointer = a.pointer;
-  attribute = a.attribute;
+  element = a.element;
+  marked = a.attribute;
   shape = pushes nothing a.shape;
   strides = pushes nothing a.strides;
   tile = pushes nothing a.tile;
@@ -70,7 +29,7 @@ record_of p = record {
   kind = p.kind;
   element = p.element;
   pointer = p.pointer;
-  attribute = p.attribute;
+  attribute = p.marked;
   shape = p.shape.values;
   shape_len = p.shape.len;
   strides = p.strides.values;

@@ -1,52 +1,41 @@
--- A whole strict form, as the code reads it: the first word, by its number, tells the kind and what follows.
-use Rattle.std.specs.Prelude.{ℕ, ◌+◌, Bool, true, false, cond, not, ◌&&◌, List, [], ◌∷◌, ◌++◌, ltb, ℤ, pos}
-use Rattle.lexis.specs.Text.{bytes}
+-- A whole strict form, as the code reads it: the first word tells the kind and what follows.
+use Rattle.std.specs.Prelude.{ℕ, Bool, true, false, List, ℤ, pos}
+use Rattle.scalars.specs.declared.scalar.Scalar.{Scalar}
+use Rattle.scalars.specs.declared.scalar.Scalar.TheVariants.{I1}
 use Rattle.meaning.specs.declared.Kind.{Kind}
 use Rattle.meaning.specs.declared.Kind.TheVariants as K
+use Rattle.meaning.specs.declared.Padding.{Padding}
+use Rattle.meaning.specs.declared.Padding.TheVariants as P
 use Rattle.grammar.specs.Piece.{Answer, got}
 use Rattle.grammar.specs.Join.{mapped, after}
-use Rattle.grammar.specs.Table.{Entry, ◌↝◌}
-use Rattle.strict.specs.Words.{choose}
+use Rattle.strict.specs.Words.{among}
 use Rattle.strict.specs.Lists.{Row, row, nothing}
+use Rattle.strict.specs.Heads.{heads}
 use Rattle.strict.specs.Inner.{Cored, Tiled, Tensed, pointee, close, tile, tensor}
 use Rattle.strict.specs.Views.{Viewed, viewed, entries, walking, mid, sight, ending}
+use Rattle.strict.specs.declared.heads.Head.{Head}
+use Rattle.strict.specs.declared.heads.Head.TheVariants as H
 use Rattle.strict.specs.declared.whole.Whole.{Whole}
 
-abbrev pub heads : List ℕ
-heads =
-    bytes "i1|i4|i8|i16|i32|i64|f16|bf16|f32|tf32|f64|" ++
-    bytes "f8E4M3FN|f8e4m3fn|f8E5M2|f8e5m2|f8E8M0FNU|f8e8m0fnu|f4E2M1FN|f4e2m1fn|f8E5M3FNU|f8e5m3fnu|bool|" ++
-    bytes "token|!cuda_tile.token|ptr<|!cuda_tile.ptr<|tile<|!cuda_tile.tile<|tensor_view<|!cuda_tile.tensor_view<|" ++
-    bytes "partition_view<tile=(|!cuda_tile.partition_view<tile=(|" ++
-    bytes "gather_scatter_view<tile=(|!cuda_tile.gather_scatter_view<tile=(|" ++
-    bytes "strided_view<tile=(|!cuda_tile.strided_view<tile=(|"
-
--- the kinds in one spelling, whose words have every second number
-abbrev pub kinds : ℕ → List (Entry ℕ)
-kinds k =
-    (bytes "token" ↝ k) ∷ (bytes "ptr<" ↝ k + 2) ∷ (bytes "tile<" ↝ k + 4) ∷ (bytes "tensor_view<" ↝ k + 6) ∷
-    (bytes "partition_view<tile=(" ↝ k + 8) ∷ (bytes "gather_scatter_view<tile=(" ↝ k + 10) ∷ (bytes "strided_view<tile=(" ↝ k + 12) ∷ []
-
--- a type of any rank, with a scalar and a padding by their numbers
-pub record Entire : Type 0 where
+-- a type of any rank: what the grammar and the code both say of a text
+pub record Plain : Type 0 where
   pub kind : Kind
   pub pointer : Bool
-  pub word : ℕ
+  pub element : Scalar
   pub marked : Bool
-  pub shape : Row
-  pub strides : Row
-  pub tile : Row
-  pub map : Row
-  pub walk : Row
+  pub shape : Row ℤ
+  pub strides : Row ℤ
+  pub tile : Row ℤ
+  pub map : Row ℤ
+  pub walk : Row ℤ
   pub sparse : ℤ
-  pub padded : Bool
-  pub pad : ℕ
+  pub padding : Padding
 
-abbrev pub simple : Kind → Bool → ℕ → Bool → Row → Row → Entire
-simple k p w m sh st = record {
+abbrev pub simple : Kind → Bool → Scalar → Bool → Row ℤ → Row ℤ → Plain
+simple k p e m sh st = record {
   kind = k;
   pointer = p;
-  word = w;
+  element = e;
   marked = m;
   shape = sh;
   strides = st;
@@ -54,30 +43,29 @@ simple k p w m sh st = record {
   map = nothing;
   walk = nothing;
   sparse = pos 0;
-  padded = false;
-  pad = 0;
+  padding = P.Absent;
 }
 
-abbrev pub scalar_of : ℕ → Entire
-scalar_of k = simple K.Scalar false k false nothing nothing
+abbrev pub scalar_of : Scalar → Plain
+scalar_of e = simple K.Scalar false e false nothing nothing
 
-abbrev pub token : Entire
-token = simple K.Token false 0 false nothing nothing
+abbrev pub token : Plain
+token = simple K.Token false I1 false nothing nothing
 
-abbrev pub pointer_of : Cored → Entire
-pointer_of c = simple K.Pointer false c.word c.marked nothing nothing
+abbrev pub pointer_of : Cored → Plain
+pointer_of c = simple K.Pointer false c.element c.marked nothing nothing
 
-abbrev pub tile_of : Tiled → Entire
-tile_of t = simple K.Tile t.core.pointer t.core.word t.core.marked t.shape nothing
+abbrev pub tile_of : Tiled → Plain
+tile_of t = simple K.Tile t.core.pointer t.core.element t.core.marked t.shape nothing
 
-abbrev pub tensor_of : Tensed → Entire
-tensor_of t = simple K.TensorView false t.word t.rest.marked t.shape t.rest.strides
+abbrev pub tensor_of : Tensed → Plain
+tensor_of t = simple K.TensorView false t.element t.rest.marked t.shape t.rest.strides
 
-abbrev pub view_of : Kind → Viewed → Entire
+abbrev pub view_of : Kind → Viewed → Plain
 view_of k v = record {
   kind = k;
   pointer = false;
-  word = v.sight.tensor.word;
+  element = v.sight.tensor.element;
   marked = v.sight.tensor.rest.marked;
   shape = v.sight.tensor.shape;
   strides = v.sight.tensor.rest.strides;
@@ -85,46 +73,55 @@ view_of k v = record {
   map = v.map;
   walk = v.walk;
   sparse = v.sparse;
-  padded = v.sight.padded;
-  pad = v.sight.pad;
+  padding = v.sight.padding;
 }
 
 -- a view: the entries of its tile, the traversal in a strided one, the word that opens a tensor view or a padding, what it opens, the end
-abbrev pub view : Kind → Bool → Bool → List ℕ → Answer Entire
+abbrev pub view : Kind → Bool → Bool → List ℕ → Answer Plain
 view k bare sparse t =
     after (λ l r. after (λ w x. after (λ j y. after (λ v z. mapped (λ e. view_of k (viewed l v e.map w e.sparse)) (ending sparse z)) (sight j y)) (mid bare x)) (walking bare r)) (entries true t)
 
-abbrev pub kind_by : Bool → Bool → Kind
-kind_by p g = cond p K.Partition (cond g K.GatherScatter K.Strided)
+-- which views have a traversal, and which end with a sparse dimension
+abbrev pub is_strided : Kind → Bool
+is_strided K.Strided = true
+is_strided K.Scalar = false
+is_strided K.Pointer = false
+is_strided K.Tile = false
+is_strided K.TensorView = false
+is_strided K.Partition = false
+is_strided K.GatherScatter = false
+is_strided K.Token = false
 
--- what follows the first word, by its number
-abbrev pub from_partition : ℕ → List ℕ → Answer Entire
-from_partition k r = view (kind_by (ltb k 32) (ltb k 34)) (ltb k 34) (ltb k 34 && not (ltb k 32)) r
+abbrev pub is_gather : Kind → Bool
+is_gather K.GatherScatter = true
+is_gather K.Scalar = false
+is_gather K.Pointer = false
+is_gather K.Tile = false
+is_gather K.TensorView = false
+is_gather K.Partition = false
+is_gather K.Strided = false
+is_gather K.Token = false
 
-abbrev pub from_tensor : ℕ → List ℕ → Answer Entire
-from_tensor k r = cond (ltb k 30) (mapped tensor_of (tensor r)) (from_partition k r)
+-- what follows the first word
+abbrev pub from_head : Head → List ℕ → Answer Plain
+from_head (H.Scalar e) r = got (scalar_of e) r
+from_head H.Token r = got token r
+from_head H.Pointer r = mapped pointer_of (pointee close r)
+from_head H.Tile r = mapped tile_of (tile r)
+from_head H.TensorView r = mapped tensor_of (tensor r)
+from_head H.Partition r = view K.Partition true false r
+from_head H.GatherScatter r = view K.GatherScatter true true r
+from_head H.Strided r = view K.Strided false false r
 
-abbrev pub from_tile : ℕ → List ℕ → Answer Entire
-from_tile k r = cond (ltb k 28) (mapped tile_of (tile r)) (from_tensor k r)
-
-abbrev pub from_pointer : ℕ → List ℕ → Answer Entire
-from_pointer k r = cond (ltb k 26) (mapped pointer_of (pointee close r)) (from_tile k r)
-
-abbrev pub from_token : ℕ → List ℕ → Answer Entire
-from_token k r = cond (ltb k 24) (got token r) (from_pointer k r)
-
-abbrev pub from_head : ℕ → List ℕ → Answer Entire
-from_head k r = cond (ltb k 22) (got (scalar_of k) r) (from_token k r)
-
-unfoldable pub whole : List ℕ → Answer Entire
-whole t = after from_head (choose heads t)
+unfoldable pub whole : List ℕ → Answer Plain
+whole t = after from_head (among heads t)
 
 -- with its shape, strides, tile, map and traversal
-abbrev pub entire : List ℤ → List ℤ → List ℤ → List ℤ → List ℤ → Whole → Entire
+abbrev pub entire : List ℤ → List ℤ → List ℤ → List ℤ → List ℤ → Whole → Plain
 entire l m x y z w = record {
   kind = w.kind;
   pointer = w.pointer;
-  word = w.word;
+  element = w.element;
   marked = w.marked;
   shape = row l w.shape;
   strides = row m w.strides;
@@ -132,16 +129,15 @@ entire l m x y z w = record {
   map = row y w.map;
   walk = row z w.walk;
   sparse = w.sparse;
-  padded = w.padded;
-  pad = w.pad;
+  padding = w.padding;
 }
 
 -- the code's types that are no view
-abbrev pub plainly : Kind → Bool → ℕ → Bool → ℕ → ℕ → ℕ → Whole
-plainly k p w m n o e = record {
+abbrev pub plainly : Kind → Bool → Scalar → Bool → ℕ → ℕ → Whole
+plainly k p e m n o = record {
   kind = k;
   pointer = p;
-  word = w;
+  element = e;
   marked = m;
   shape = n;
   strides = o;
@@ -149,7 +145,5 @@ plainly k p w m n o e = record {
   map = 0;
   walk = 0;
   sparse = pos 0;
-  padded = false;
-  pad = 0;
-  end = e;
+  padding = P.Absent;
 }

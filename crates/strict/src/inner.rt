@@ -1,21 +1,22 @@
-// What stands in a pointer, a tile and a tensor view, with what ends it. Names are numbers in the table of names.
-ghost use Rattle.std.specs.Prelude.{◌≡◌, [], T, length, ◌≤◌};
+// What stands in a pointer, a tile and a tensor view, with what ends it.
+ghost use Rattle.std.specs.Prelude.{◌≡◌, [], T, drop, length, ◌≤◌};
 ghost use Rattle.meaning.specs.Found.{padded};
-ghost use Rattle.strict.specs.Cursor.{Told, place};
-ghost use Rattle.strict.specs.Words.{next, differ};
-ghost use Rattle.strict.specs.Inner.{pointed, core, cored, shape, tile, tiled, listed, rest, rested, tensor, tensed};
+ghost use Rattle.strict.specs.Cursor.{Told};
+ghost use Rattle.strict.specs.Words.{differ};
+ghost use Rattle.strict.specs.Inner.{pointee, closings, core, cored, tile, tiled, listed, rest, rested, tensor, tensed};
 
-use super::list::{read_list64, read_shape};
+use super::cursor::{Read, Stuck};
+use super::list::{read_list, read_shape};
 use super::middles::read_open;
 use super::names::{read_core_name, read_name};
-use super::words::{fork, read_two, read_word};
+use super::words::{fit, fork, read_two};
+use scalars::Scalar;
 
 #[derive(Clone, Copy)]
 pub(crate) struct Core {
     pub(crate) pointer: bool,
-    pub(crate) word: usize,
+    pub(crate) element: Scalar,
     pub(crate) marked: bool,
-    pub(crate) end: usize,
 }
 
 #[derive(Clone, Copy)]
@@ -24,119 +25,138 @@ pub(crate) struct Tile {
     pub(crate) core: Core,
 }
 
+// The number of strides, and the mark.
 #[derive(Clone, Copy)]
-struct Rest {
-    len: usize,
-    marked: bool,
-    end: usize,
+pub(crate) struct Rest {
+    pub(crate) len: usize,
+    pub(crate) marked: bool,
 }
 
-// The rank, the name, and the number of strides.
 #[derive(Clone, Copy)]
 pub(crate) struct Tensor {
     pub(crate) rank: usize,
-    pub(crate) word: usize,
-    pub(crate) len: usize,
-    pub(crate) marked: bool,
-    pub(crate) end: usize,
+    pub(crate) element: Scalar,
+    pub(crate) rest: Rest,
 }
 
 // What stands in a pointer, and what closes it, without or with the mark.
-pub(crate) fn read_pointee(s: &[u8], from: usize, bare: &[u8], marked: &[u8]) -> Core
-    requires from_in_bounds { place s.now from ≤ length s.now }
-    requires t { T (differ bare.now marked.now) }
-    ensures { Told s.now (place s.now from) (next s.now (pointed bare.now marked.now) from) (cored result) result.end }
+pub(crate) fn read_pointee(
+    s: &[u8],
+    at: usize,
+    bare: &[u8],
+    marked: &[u8],
+) -> Result<Read<Core>, Stuck>
+    requires at_in_bounds { at ≤ length s.now }
+    requires apart { T (differ bare.now marked.now) }
+    ensures { Told s.now at (pointee (closings bare.now marked.now) (drop at s.now)) cored result }
 {
-    let n = read_name(s, from);
-    let m = fork(s, n.end, bare, 0, marked, 1);
-    Core {
-        pointer: true,
-        word: n.word,
-        marked: m.word == 1,
+    let n = read_name(s, at)?;
+    let m = fork(s, n.end, bare, false, marked, true)?;
+    Ok(Read {
+        value: Core {
+            pointer: true,
+            element: n.value,
+            marked: m.value,
+        },
         end: m.end,
-    }
+    })
 }
 
 // A tile's element, and the tile's end.
-fn read_core(s: &[u8], from: usize) -> Core
-    requires { place s.now from ≤ length s.now }
-    ensures { Told s.now (place s.now from) (next s.now core from) (cored result) result.end }
+fn read_core(s: &[u8], at: usize) -> Result<Read<Core>, Stuck>
+    requires { at ≤ length s.now }
+    ensures { Told s.now at (core (drop at s.now)) cored result }
 {
-    let k = read_core_name(s, from);
-    if k.word < 22 {
-        let m = read_word(s, k.end, b">");
-        return Core {
+    let k = read_core_name(s, at)?;
+    let Some(element) = k.value else {
+        return read_pointee(s, k.end, b">>", b", #cuda_tile.ptr_attr<none>>>");
+    };
+    let m = fit(s, k.end, b">", ())?;
+    Ok(Read {
+        value: Core {
             pointer: false,
-            word: k.word,
+            element,
             marked: false,
-            end: m.end,
-        };
-    }
-    read_pointee(s, k.end, b">>", b", #cuda_tile.ptr_attr<none>>>")
+        },
+        end: m.end,
+    })
 }
 
 // What stands in a tile, with its end.
-pub(crate) fn read_tile(s: &[u8], from: usize, shape: &mut [i64]) -> Tile
-    requires from_in_bounds { place s.now from ≤ length s.now }
+pub(crate) fn read_tile(s: &[u8], at: usize, shape: &mut [i64]) -> Result<Read<Tile>, Stuck>
+    requires at_in_bounds { at ≤ length s.now }
     requires shape_value { shape.old ≡ padded 8 [] }
-    ensures { Told s.now (place s.now from) (next s.now tile from) (tiled shape.new result) result.core.end }
+    ensures { Told s.now at (tile (drop at s.now)) (tiled shape.new) result }
 {
-    let l = read_shape(s, from, shape);
-    let core = read_core(s, l.end);
-    Tile { rank: l.len, core }
+    let l = read_shape(s, at, shape)?;
+    let c = read_core(s, l.end)?;
+    Ok(Read {
+        value: Tile {
+            rank: l.value,
+            core: c.value,
+        },
+        end: c.end,
+    })
 }
 
 // The strides' list, and what ends the tensor view.
-fn read_strides(s: &[u8], from: usize, strides: &mut [i64]) -> Rest
-    requires from_in_bounds { place s.now from ≤ length s.now }
+fn read_strides(s: &[u8], at: usize, strides: &mut [i64]) -> Result<Read<Rest>, Stuck>
+    requires at_in_bounds { at ≤ length s.now }
     requires strides_value { strides.old ≡ padded 8 [] }
-    ensures { Told s.now (place s.now from) (next s.now listed from) (rested strides.new result) result.end }
+    ensures { Told s.now at (listed (drop at s.now)) (rested strides.new) result }
 {
-    let l = read_list64(s, from, strides);
-    let m = read_two(s, l.end, b"]", b">", b", #cuda_tile.ptr_attr<none>>");
-    Rest {
-        len: l.len,
-        marked: m.word == 1,
+    let l = read_list(s, at, strides)?;
+    let m = read_two(s, l.end, b"]", b">", b", #cuda_tile.ptr_attr<none>>")?;
+    Ok(Read {
+        value: Rest {
+            len: l.value,
+            marked: m.value,
+        },
         end: m.end,
-    }
+    })
 }
 
 // After the name: the strides, which may be absent at rank 0 only, and what ends the tensor view.
-fn read_rest(s: &[u8], from: usize, rank: usize, strides: &mut [i64]) -> Rest
-    requires from_in_bounds { place s.now from ≤ length s.now }
+fn read_rest(s: &[u8], at: usize, rank: usize, strides: &mut [i64]) -> Result<Read<Rest>, Stuck>
+    requires at_in_bounds { at ≤ length s.now }
     requires strides_value { strides.old ≡ padded 8 [] }
-    ensures { Told s.now (place s.now from) (next s.now (rest rank) from) (rested strides.new result) result.end }
+    ensures { Told s.now at (rest rank (drop at s.now)) (rested strides.new) result }
 {
     if rank == 0 {
-        let k = read_open(s, from);
-        if k.word < 2 {
-            return Rest {
-                len: 0,
-                marked: k.word == 1,
+        let k = read_open(s, at)?;
+        if let Some(marked) = k.value {
+            return Ok(Read {
+                value: Rest { len: 0, marked },
                 end: k.end,
-            };
+            });
         }
         return read_strides(s, k.end, strides);
     }
-    let k = read_two(s, from, b",", b"strides=[", b" strides=[");
+    let k = read_two(s, at, b",", b"strides=[", b" strides=[")?;
     read_strides(s, k.end, strides)
 }
 
 // What stands in a tensor view, with its end.
-pub(crate) fn read_tensor(s: &[u8], from: usize, shape: &mut [i64], strides: &mut [i64]) -> Tensor
-    requires from_in_bounds { place s.now from ≤ length s.now }
+pub(crate) fn read_tensor(
+    s: &[u8],
+    at: usize,
+    shape: &mut [i64],
+    strides: &mut [i64],
+) -> Result<Read<Tensor>, Stuck>
+    requires at_in_bounds { at ≤ length s.now }
     requires shape_value { shape.old ≡ padded 8 [] }
     requires strides_value { strides.old ≡ padded 8 [] }
-    ensures { Told s.now (place s.now from) (next s.now tensor from) (tensed shape.new strides.new result) result.end }
+    ensures { Told s.now at (tensor (drop at s.now)) (tensed shape.new strides.new) result }
 {
-    let l = read_shape(s, from, shape);
-    let n = read_name(s, l.end);
-    let r = read_rest(s, n.end, l.len, strides);
-    Tensor {
-        rank: l.len,
-        word: n.word,
-        len: r.len,
-        marked: r.marked,
+    let l = read_shape(s, at, shape)?;
+    let n = read_name(s, l.end)?;
+    let r = read_rest(s, n.end, l.value, strides)?;
+    Ok(Read {
+        value: Tensor {
+            rank: l.value,
+            element: n.value,
+            rest: r.value,
+        },
         end: r.end,
-    }
+    })
 }

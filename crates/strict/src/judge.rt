@@ -1,69 +1,12 @@
 // What was read, laid out as a record and judged: refusal 5, then refusal 4.
 ghost use Rattle.std.specs.Prelude.{◌≡◌, ◌&&◌, leb};
-ghost use Rattle.grammar.specs.Join.{mapped};
 ghost use Rattle.strict.specs.Whole.{entire, whole};
-ghost use Rattle.strict.specs.Plain.{scalar, padding, said, record_of, judged};
+ghost use Rattle.strict.specs.Plain.{record_of, judged};
 
 use super::whole::{Whole, read_whole};
-use meaning::{CAP, Padding, Reading, Record, Refusal, no_note, refuse};
-use scalars::Scalar;
+use meaning::{CAP, Reading, Record, Refusal, no_note, refuse};
 
-// The scalar of each name, by its number.
-fn scalar_of(k: usize) -> Scalar
-    ensures { result ≡ scalar k }
-{
-    let scalars = [
-        Scalar::I1,
-        Scalar::I4,
-        Scalar::I8,
-        Scalar::I16,
-        Scalar::I32,
-        Scalar::I64,
-        Scalar::F16,
-        Scalar::BF16,
-        Scalar::F32,
-        Scalar::TF32,
-        Scalar::F64,
-        Scalar::F8E4M3FN,
-        Scalar::F8E4M3FN,
-        Scalar::F8E5M2,
-        Scalar::F8E5M2,
-        Scalar::F8E8M0FNU,
-        Scalar::F8E8M0FNU,
-        Scalar::F4E2M1FN,
-        Scalar::F4E2M1FN,
-        Scalar::F8E5M3FNU,
-        Scalar::F8E5M3FNU,
-        Scalar::I1,
-    ];
-    if k < scalars.len() {
-        let s = scalars[k];
-        return s;
-    }
-    Scalar::I1
-}
-
-// The padding of each word, by its number, where one is given.
-fn padding_of(given: bool, k: usize) -> Padding
-    ensures { result ≡ padding given k }
-{
-    if !given {
-        return Padding::Absent;
-    }
-    let paddings = [
-        Padding::Zero,
-        Padding::NegZero,
-        Padding::Nan,
-        Padding::PosInf,
-        Padding::NegInf,
-    ];
-    if k < paddings.len() {
-        let p = paddings[k];
-        return p;
-    }
-    Padding::Zero
-}
-
+// The type as a record.
 fn record_of(
     w: Whole,
     shape: [i64; CAP],
@@ -72,15 +15,13 @@ fn record_of(
     map: [i32; CAP],
     walk: [i32; CAP],
 ) -> Record
-    ensures { result ≡ record_of (said (entire shape strides tile map walk w)) }
+    ensures { result ≡ record_of (entire shape strides tile map walk w) }
 {
     let kind = w.kind;
-    let element = scalar_of(w.word);
-    let padding = padding_of(w.padded, w.pad);
     let sparse = w.sparse;
     Record {
         kind,
-        element,
+        element: w.element,
         pointer: w.pointer,
         attribute: w.marked,
         shape,
@@ -94,7 +35,7 @@ fn record_of(
         traversal: walk,
         traversal_len: w.walk,
         sparse,
-        padding,
+        padding: w.padding,
     }
 }
 
@@ -107,14 +48,14 @@ fn within(w: Whole) -> bool
 
 // The type is accepted if it is the whole text.
 pub(crate) fn judge(text: &[u8]) -> Reading
-    ensures { result ≡ judged (mapped said (whole text.now)) }
+    ensures { result ≡ judged (whole text.now) }
 {
     let mut shape = [0i64; CAP];
     let mut strides = [0i64; CAP];
     let mut tile = [0i32; CAP];
     let mut map = [0i32; CAP];
     let mut walk = [0i32; CAP];
-    let w = read_whole(
+    let read = read_whole(
         text,
         &mut shape,
         &mut strides,
@@ -122,9 +63,13 @@ pub(crate) fn judge(text: &[u8]) -> Reading
         &mut map,
         &mut walk,
     );
-    if w.end != text.len() {
+    let Ok(read) = read else {
+        return refuse(Refusal::NotStrict, 0);
+    };
+    if read.end != text.len() {
         return refuse(Refusal::NotStrict, 0);
     }
+    let w = read.value;
     if !within(w) {
         return refuse(Refusal::TooMany, 0);
     }

@@ -1,7 +1,8 @@
-// The strict reader: one cursor over the text, no step back. Each part answers a value and the place after it, or where it is stuck.
+// The strict reader: one cursor over the text, no step back. Each part answers a value and the place after it, or the place where it is stuck.
 #![tactic(auto)]
 
 mod answer;
+mod cursor;
 mod heads;
 mod inner;
 mod judge;

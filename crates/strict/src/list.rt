@@ -1,26 +1,140 @@
-// Lists of entries between separators: the first eight, and their true number.
-ghost use Rattle.std.specs.Prelude.{◌≡◌, [], drop, length, set, ◌≤◌};
+// Lists of entries between separators: the first eight, and their true number, which is what a reader answers.
+ghost use Rattle.std.specs.Prelude.{◌≡◌, ℕ, List, [], ◌∷◌, drop, length, set, ◌+◌, ◌≤◌, ◌<◌, ◌^◌, true};
 ghost use Rattle.meaning.specs.Found.{padded};
 ghost use Rattle.grammar.specs.Join.{mapped};
-ghost use Rattle.grammar.specs.Piece.{member};
+ghost use Rattle.grammar.specs.Piece.{Answer, member};
 ghost use Rattle.grammar.specs.Several.{figs?};
-ghost use Rattle.strict.specs.Cursor.{Told, place};
-ghost use Rattle.strict.specs.Words.{next};
-ghost use Rattle.strict.specs.Rows.{parts32, commas64, dims64, dim_x, list32, list64};
+ghost use Rattle.strict.specs.Cursor.{Told, numeral, dimension, skip};
+ghost use Rattle.strict.specs.Rows.{Parts, behind, commas32, xs32, commas64, dims64, dim_x, listed, list32};
 ghost use Rattle.strict.specs.Lists.{row, nothing, pushes};
+ghost use Rattle.strict.specs.Laws.{commas32_are, commas64_are, xs32_are, dims64_are};
 
-use super::number::{Num64, number32, read_dim, space};
-use super::words::{peek, read_word};
+use super::cursor::{Read, Stuck};
+use super::number::{number32, read_dim, space};
+use super::words::{fit, peek};
 
-// How many entries were read, with the end.
-#[derive(Clone, Copy)]
-pub(crate) struct Listed {
-    pub(crate) len: usize,
-    pub(crate) end: usize,
+// An entry of 32 bits is a numeral, one of 64 bits a dimension.
+pub(crate) trait Entry: Copy {
+    ghost entry: { List ℕ → Answer Self };
+
+    ghost commas: { List ℕ → Answer (List Self) };
+
+    fn read(s: &[u8], at: usize) -> Result<Read<Self>, Stuck>
+        requires { at ≤ length s.now }
+        ensures { Told s.now at (entry (drop at s.now)) (λ v. v) result };
+
+    // entries each behind a comma, and maybe a space
+    ghost law: { Parts commas (44 ∷ []) (λ t. entry (behind t)) };
+}
+
+impl Entry for i32 {
+    ghost entry = { numeral (2 ^ 31) (2 ^ 31 + 1) };
+
+    ghost commas = { commas32 };
+
+    ghost law = { commas32_are };
+
+    fn read(s: &[u8], at: usize) -> Result<Read<i32>, Stuck> {
+        number32(s, at)
+    }
+}
+
+impl Entry for i64 {
+    ghost entry = { dimension };
+
+    ghost commas = { commas64 };
+
+    ghost law = { commas64_are };
+
+    fn read(s: &[u8], at: usize) -> Result<Read<i64>, Stuck> {
+        read_dim(s, at)
+    }
+}
+
+// A kind of list: what an item begins with, and how one is read, with what stands before or after its entry.
+trait Items<E> {
+    ghost items: { List ℕ → Answer (List E) };
+
+    ghost item: { List ℕ → Answer E };
+
+    ghost firsts: { List ℕ };
+
+    fn begins(b: u8) -> bool
+        ensures { result ≡ member b firsts };
+
+    fn read_item(s: &[u8], at: usize) -> Result<Read<E>, Stuck>
+        requires { at < length s.now }
+        ensures { Told s.now at (item (drop at s.now)) (λ v. v) result };
+
+    ghost law: { Parts items firsts item };
+}
+
+// A comma, and maybe a space, before each entry.
+struct ByComma;
+
+impl<E: Entry> Items<E> for ByComma {
+    ghost items = { E.commas };
+
+    ghost item = { λ t. E.entry (behind t) };
+
+    ghost firsts = { 44 ∷ [] };
+
+    ghost law = { E.law };
+
+    fn begins(b: u8) -> bool {
+        b == b','
+    }
+
+    fn read_item(s: &[u8], at: usize) -> Result<Read<E>, Stuck> {
+        E::read(s, space(s, at + 1))
+    }
+}
+
+// An `x` before each entry.
+struct ByX;
+
+impl Items<i32> for ByX {
+    ghost items = { xs32 };
+
+    ghost item = { λ t. numeral (2 ^ 31) (2 ^ 31 + 1) (drop 1 t) };
+
+    ghost firsts = { 120 ∷ [] };
+
+    ghost law = { xs32_are };
+
+    fn begins(b: u8) -> bool {
+        b == b'x'
+    }
+
+    fn read_item(s: &[u8], at: usize) -> Result<Read<i32>, Stuck> {
+        number32(s, at + 1)
+    }
+}
+
+// An `x` after each dimension.
+struct Shape;
+
+impl Items<i64> for Shape {
+    ghost items = { dims64 };
+
+    ghost item = { dim_x };
+
+    ghost firsts = { figs? };
+
+    ghost law = { dims64_are };
+
+    fn begins(b: u8) -> bool {
+        (b == b'?') | (b == b'-') | ((b'0' <= b) & (b <= b'9'))
+    }
+
+    fn read_item(s: &[u8], at: usize) -> Result<Read<i64>, Stuck> {
+        let n = read_dim(s, at)?;
+        fit(s, n.end, b"x", n.value)
+    }
 }
 
 // One entry more; past the capacity it is only counted.
-fn put32(out: &mut [i32], n: usize, v: i32)
+fn put<E: Copy>(out: &mut [E], n: usize, v: E)
     ensures { out.new ≡ set out.old n v }
 {
     if n < out.len() {
@@ -28,139 +142,60 @@ fn put32(out: &mut [i32], n: usize, v: i32)
     }
 }
 
-fn put64(out: &mut [i64], n: usize, v: i64)
-    ensures { out.new ≡ set out.old n v }
+// Items again and again, behind the `len` entries that `out` has.
+fn read_items<E: Copy, I: Items<E>>(
+    s: &[u8],
+    at: usize,
+    len: usize,
+    out: &mut [E],
+) -> Result<Read<usize>, Stuck>
+    requires at_in_bounds { at ≤ length s.now }
+    requires len_bound { len ≤ 1 }
+    ensures { Told s.now at (mapped (pushes (row out.old len)) (I.items (drop at s.now))) (row out.new) result }
 {
-    if n < out.len() {
-        out[n] = v;
-    }
-}
-
-// A separator and a numeral, again and again; the separator is an `x`, or a comma.
-fn read_parts32(s: &[u8], at: usize, x: bool, out: &mut [i32]) -> Listed
-    requires { at ≤ length s.now }
-    ensures { Told s.now at (mapped (pushes (row out.old 1)) (parts32 x (drop at s.now))) (row out.new result.len) result.end }
-{
-    let sep = if x { 120 } else { 44 };
-    let mut n = 1;
+    let mut n = len;
     let mut i = at;
     while i < s.len() {
-        if s[i] != sep {
-            return Listed { len: n, end: i };
+        if !I::begins(s[i]) {
+            return Ok(Read { value: n, end: i });
         }
-        let q = space(s, i + 1, x);
-        let m = number32(s, q);
-        if s.len() < m.end {
-            return Listed { len: n, end: m.end };
-        }
-        put32(&mut *out, n, m.value);
+        let m = I::read_item(s, i)?;
+        put(&mut *out, n, m.value);
         n += 1;
         i = m.end;
     }
-    Listed { len: n, end: i }
-}
-
-// A comma and a dimension, again and again.
-fn read_commas64(s: &[u8], at: usize, out: &mut [i64]) -> Listed
-    requires { at ≤ length s.now }
-    ensures { Told s.now at (mapped (pushes (row out.old 1)) (commas64 (drop at s.now))) (row out.new result.len) result.end }
-{
-    let mut n = 1;
-    let mut i = at;
-    while i < s.len() {
-        if s[i] != 44 {
-            return Listed { len: n, end: i };
-        }
-        let q = space(s, i + 1, false);
-        let m = read_dim(s, q);
-        if s.len() < m.end {
-            return Listed { len: n, end: m.end };
-        }
-        put64(&mut *out, n, m.value);
-        n += 1;
-        i = m.end;
-    }
-    Listed { len: n, end: i }
-}
-
-// A byte that a dimension begins with.
-fn starts(b: u8) -> bool
-    ensures { result ≡ member b figs? }
-{
-    (b == 63) | (b == 45) | ((47 < b) & (b < 58))
-}
-
-// A dimension and the `x` after it.
-fn read_dim_x(s: &[u8], at: usize) -> Num64
-    requires { at ≤ length s.now }
-    ensures { Told s.now at (dim_x (drop at s.now)) result.value result.end }
-{
-    let n = read_dim(s, at);
-    let x = read_word(s, n.end, b"x");
-    Num64 {
-        value: n.value,
-        end: x.end,
-    }
+    Ok(Read { value: n, end: i })
 }
 
 // Dimensions, each followed by `x`.
-pub(crate) fn read_shape(s: &[u8], from: usize, out: &mut [i64]) -> Listed
-    requires from_in_bounds { place s.now from ≤ length s.now }
+pub(crate) fn read_shape(s: &[u8], at: usize, out: &mut [i64]) -> Result<Read<usize>, Stuck>
+    requires at_in_bounds { at ≤ length s.now }
     requires out_value { out.old ≡ padded 8 [] }
-    ensures { Told s.now (place s.now from) (next s.now (λ t. mapped (pushes nothing) (dims64 t)) from) (row out.new result.len) result.end }
+    ensures { Told s.now at (mapped (pushes nothing) (dims64 (drop at s.now))) (row out.new) result }
 {
-    if s.len() < from {
-        return Listed { len: 0, end: from };
-    }
-    let mut n = 0;
-    let mut i = from;
-    while i < s.len() {
-        if !starts(s[i]) {
-            return Listed { len: n, end: i };
-        }
-        let m = read_dim_x(s, i);
-        if s.len() < m.end {
-            return Listed { len: n, end: m.end };
-        }
-        put64(&mut *out, n, m.value);
-        n += 1;
-        i = m.end;
-    }
-    Listed { len: n, end: i }
+    read_items::<i64, Shape>(s, at, 0, out)
 }
 
-// At least one entry, parted by commas or, where it may, by `x`.
-pub(crate) fn read_list32(s: &[u8], from: usize, x: bool, out: &mut [i32]) -> Listed
-    requires from_in_bounds { place s.now from ≤ length s.now }
-    requires out_value { out.old ≡ padded 8 [] }
-    ensures { Told s.now (place s.now from) (next s.now (λ t. mapped (pushes nothing) (list32 x t)) from) (row out.new result.len) result.end }
+// At least one entry, parted by commas.
+pub(crate) fn read_list<E: Entry>(s: &[u8], at: usize, out: &mut [E]) -> Result<Read<usize>, Stuck>
+    requires { at ≤ length s.now }
+    ensures { Told s.now at (mapped (pushes (row out.old 0)) (listed E.commas (E.entry (drop at s.now)))) (row out.new) result }
 {
-    if s.len() < from {
-        return Listed { len: 0, end: from };
-    }
-    let n = number32(s, from);
-    if s.len() < n.end {
-        return Listed { len: 0, end: n.end };
-    }
-    put32(&mut *out, 0, n.value);
-    // what follows: by commas, or, where it may, by `x`
-    let by_x = x & (peek(s, n.end) == 120);
-    read_parts32(s, n.end, by_x, out)
+    let n = E::read(s, at)?;
+    put(&mut *out, 0, n.value);
+    read_items::<E, ByComma>(s, n.end, 1, out)
 }
 
-// At least one dimension, parted by commas.
-pub(crate) fn read_list64(s: &[u8], from: usize, out: &mut [i64]) -> Listed
-    requires from_in_bounds { place s.now from ≤ length s.now }
+// The entries of a view's tile: at least one, parted by commas or by `x`.
+pub(crate) fn read_entries(s: &[u8], at: usize, out: &mut [i32]) -> Result<Read<usize>, Stuck>
+    requires at_in_bounds { at ≤ length s.now }
     requires out_value { out.old ≡ padded 8 [] }
-    ensures { Told s.now (place s.now from) (next s.now (λ t. mapped (pushes nothing) (list64 t)) from) (row out.new result.len) result.end }
+    ensures { Told s.now at (mapped (pushes nothing) (list32 true (drop at s.now))) (row out.new) result }
 {
-    if s.len() < from {
-        return Listed { len: 0, end: from };
+    let n = number32(s, at)?;
+    put(&mut *out, 0, n.value);
+    if peek(s, n.end) == b'x' {
+        return read_items::<i32, ByX>(s, n.end, 1, out);
     }
-    let n = read_dim(s, from);
-    if s.len() < n.end {
-        return Listed { len: 0, end: n.end };
-    }
-    put64(&mut *out, 0, n.value);
-    read_commas64(s, n.end, out)
+    read_items::<i32, ByComma>(s, n.end, 1, out)
 }

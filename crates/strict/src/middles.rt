@@ -1,142 +1,130 @@
 // The words between the parts of a tensor view and of the views around it.
-ghost use Rattle.std.specs.Prelude.{◌∷◌, drop, length, ◌+◌, ◌≤◌};
+ghost use Rattle.std.specs.Prelude.{◌∷◌, drop, length, ◌≤◌, true, false};
 ghost use Rattle.lexis.specs.Text.{bytes};
 ghost use Rattle.grammar.specs.Table.{◌↝◌, advance};
-ghost use Rattle.strict.specs.Cursor.{Told, place};
-ghost use Rattle.strict.specs.Words.{next, among, choose, entries, advances};
+ghost use Rattle.strict.specs.Cursor.{Told};
+ghost use Rattle.strict.specs.Words.{among, advances};
 ghost use Rattle.strict.specs.Inner.{opened};
 ghost use Rattle.strict.specs.Views.{pads, leads, mids, mid, tensors};
 
-use super::words::{Picked, fit, fork, found, none, peek, read_word};
+use super::cursor::{Read, Stuck};
+use super::words::{fit, fork, peek};
+use meaning::Padding;
 
 // After the comma that follows a name: the mark, or the strides.
-fn open_comma(s: &[u8], from: usize) -> Picked
-    requires { place s.now from ≤ length s.now }
-    ensures { Told s.now (place s.now from) (next s.now (among (advance 44 (entries opened))) from) result.word result.end }
+fn open_comma(s: &[u8], at: usize) -> Result<Read<Option<bool>>, Stuck>
+    requires { at ≤ length s.now }
+    ensures { Told s.now at (among (advance 44 opened) (drop at s.now)) (λ v. v) result }
 {
-    if s.len() < from {
-        return found(0, from);
-    }
-    if peek(s, from) == 32 {
+    if peek(s, at) == b' ' {
         return fork(
             s,
-            from + 1,
+            at + 1,
             b"#cuda_tile.ptr_attr<none>>",
-            1,
+            Some(true),
             b"strides=[",
-            3,
+            None,
         );
     }
-    fit(s, from, b"strides=[", 2)
+    fit(s, at, b"strides=[", None)
 }
 
-// After the name in a tensor view of rank 0.
-pub(crate) fn read_open(s: &[u8], from: usize) -> Picked
-    requires { place s.now from ≤ length s.now }
-    ensures { Told s.now (place s.now from) (next s.now (choose opened) from) result.word result.end }
+// After the name in a tensor view of rank 0: its end, without or with the mark; or the strides, which is none.
+pub(crate) fn read_open(s: &[u8], at: usize) -> Result<Read<Option<bool>>, Stuck>
+    requires { at ≤ length s.now }
+    ensures { Told s.now at (among opened (drop at s.now)) (λ v. v) result }
 {
-    if s.len() < from {
-        return found(0, from);
+    if peek(s, at) == b'>' {
+        return Ok(Read {
+            value: Some(false),
+            end: at + 1,
+        });
     }
-    if peek(s, from) == 62 {
-        return found(0, from + 1);
-    }
-    let c = fit(s, from, b",", 0);
+    let c = fit(s, at, b",", ())?;
     open_comma(s, c.end)
 }
 
 // After `n`: a padding.
-fn pad_n(s: &[u8], at: usize) -> Picked
+fn pad_n(s: &[u8], at: usize) -> Result<Read<Padding>, Stuck>
     requires { at ≤ length s.now }
-    ensures { Told s.now at (among (advance 110 (entries pads)) (drop at s.now)) result.word result.end }
+    ensures { Told s.now at (among (advance 110 pads) (drop at s.now)) (λ v. v) result }
 {
-    if peek(s, at) == 97 {
-        return fit(s, at + 1, b"n", 2);
+    if peek(s, at) == b'a' {
+        return fit(s, at + 1, b"n", Padding::Nan);
     }
-    let p = fit(s, at, b"eg_", 0);
-    fork(s, p.end, b"zero", 1, b"inf", 4)
+    let p = fit(s, at, b"eg_", ())?;
+    fork(s, p.end, b"zero", Padding::NegZero, b"inf", Padding::NegInf)
 }
 
-// A padding, by its number.
-pub(crate) fn read_pad(s: &[u8], from: usize) -> Picked
-    requires { place s.now from ≤ length s.now }
-    ensures { Told s.now (place s.now from) (next s.now (choose pads) from) result.word result.end }
+// A padding.
+pub(crate) fn read_pad(s: &[u8], at: usize) -> Result<Read<Padding>, Stuck>
+    requires { at ≤ length s.now }
+    ensures { Told s.now at (among pads (drop at s.now)) (λ v. v) result }
 {
-    if s.len() < from {
-        return found(0, from);
-    }
-    match peek(s, from) {
-        110 => pad_n(s, from + 1),
-        112 => fit(s, from + 1, b"os_inf", 3),
-        122 => fit(s, from + 1, b"ero", 0),
-        _ => none(s, from),
+    match peek(s, at) {
+        b'n' => pad_n(s, at + 1),
+        b'p' => fit(s, at + 1, b"os_inf", Padding::PosInf),
+        b'z' => fit(s, at + 1, b"ero", Padding::Zero),
+        _ => Err(Stuck { at }),
     }
 }
 
-// A tensor view's beginning in one of its three spellings: the words `k`, `k + 2` and `k + 4`.
-fn open_tensor(s: &[u8], at: usize, k: usize) -> Picked
-    requires at_in_bounds { at ≤ length s.now }
-    requires k_bound { k ≤ 3 }
-    ensures { Told s.now at (among (tensors k) (drop at s.now)) result.word result.end }
+// A tensor view's beginning in one of its three spellings, each of which says `value`.
+fn open_tensor<V: Copy>(s: &[u8], at: usize, value: V) -> Result<Read<V>, Stuck>
+    requires { at ≤ length s.now }
+    ensures { Told s.now at (among (tensors value) (drop at s.now)) (λ v. v) result }
 {
-    if peek(s, at) == 33 {
-        return fit(s, at + 1, b"cuda_tile.tensor_view<", k + 2);
+    if peek(s, at) == b'!' {
+        return fit(s, at + 1, b"cuda_tile.tensor_view<", value);
     }
-    let p = fit(s, at, b"tensor_view", 0);
-    fork(s, p.end, b"<", k, b"=!cuda_tile.tensor_view<", k + 4)
+    let p = fit(s, at, b"tensor_view", ())?;
+    fork(s, p.end, b"<", value, b"=!cuda_tile.tensor_view<", value)
 }
 
-// The same, or the beginning of a padding.
-fn open_view(s: &[u8], at: usize, k: usize) -> Picked
-    requires at_in_bounds { at ≤ length s.now }
-    requires k_bound { k ≤ 1 }
-    ensures { Told s.now at (among ((bytes "padding_value=" ↝ k) ∷ tensors (k + 2)) (drop at s.now)) result.word result.end }
+// Whether a padding begins, and not a tensor view.
+fn open_view(s: &[u8], at: usize) -> Result<Read<bool>, Stuck>
+    requires { at ≤ length s.now }
+    ensures { Told s.now at (among ((bytes "padding_value=" ↝ true) ∷ tensors false) (drop at s.now)) (λ v. v) result }
 {
     let t = &s[..]; // handed on as two words (decision 55)
-    if peek(t, at) == 112 {
-        return fit(t, at + 1, b"adding_value=", k);
+    if peek(t, at) == b'p' {
+        return fit(t, at + 1, b"adding_value=", true);
     }
-    open_tensor(t, at, k + 2)
+    open_tensor(t, at, false)
 }
 
 // After a padding: a comma, and a tensor view's beginning.
-pub(crate) fn read_lead(s: &[u8], from: usize) -> Picked
-    requires { place s.now from ≤ length s.now }
-    ensures { Told s.now (place s.now from) (next s.now (choose leads) from) result.word result.end }
+pub(crate) fn read_lead(s: &[u8], at: usize) -> Result<Read<()>, Stuck>
+    requires { at ≤ length s.now }
+    ensures { Told s.now at (among leads (drop at s.now)) (λ v. v) result }
 {
-    let c = read_word(s, from, b",");
-    if s.len() < c.end {
-        return found(0, c.end);
+    let c = fit(s, at, b",", ())?;
+    if peek(s, c.end) == b' ' {
+        return open_tensor(s, c.end + 1, ());
     }
-    if peek(s, c.end) == 32 {
-        return open_tensor(s, c.end + 1, 1);
-    }
-    open_tensor(s, c.end, 0)
+    open_tensor(s, c.end, ())
 }
 
 // After the end of a list and a comma.
-fn mid_comma(s: &[u8], from: usize) -> Picked
-    requires { place s.now from ≤ length s.now }
-    ensures { Told s.now (place s.now from) (next s.now (among (advances (bytes "),") (entries mids))) from) result.word result.end }
+fn mid_comma(s: &[u8], at: usize) -> Result<Read<bool>, Stuck>
+    requires { at ≤ length s.now }
+    ensures { Told s.now at (among (advances (bytes "),") mids) (drop at s.now)) (λ v. v) result }
 {
-    if s.len() < from {
-        return found(0, from);
+    if peek(s, at) == b' ' {
+        return open_view(s, at + 1);
     }
-    if peek(s, from) == 32 {
-        return open_view(s, from + 1, 1);
-    }
-    open_view(s, from, 0)
+    open_view(s, at)
 }
 
-// The word after a list: of the tile, or of the traversal.
-pub(crate) fn read_mid(s: &[u8], from: usize, tile: bool) -> Picked
-    requires { place s.now from ≤ length s.now }
-    ensures { Told s.now (place s.now from) (next s.now (mid tile) from) result.word result.end }
+// The word after a list, of the tile or of the traversal: whether a padding begins.
+pub(crate) fn read_mid(s: &[u8], at: usize, tile: bool) -> Result<Read<bool>, Stuck>
+    requires { at ≤ length s.now }
+    ensures { Told s.now at (mid tile (drop at s.now)) (λ v. v) result }
 {
     if tile {
-        let c = read_word(s, from, b"),");
+        let c = fit(s, at, b"),", ())?;
         return mid_comma(s, c.end);
     }
-    let c = read_word(s, from, b"],");
+    let c = fit(s, at, b"],", ())?;
     mid_comma(s, c.end)
 }

@@ -1,115 +1,142 @@
-// The names of the scalars, byte for byte; each is known by its number.
+// The names of the scalars, byte for byte.
 ghost use Rattle.std.specs.Prelude.{T, drop, length, ◌≤◌};
 ghost use Rattle.lexis.specs.Text.{bytes};
-ghost use Rattle.strict.specs.Cursor.{Told, place};
-ghost use Rattle.strict.specs.Words.{next, among, choose, differ};
+ghost use Rattle.strict.specs.Cursor.{Told};
+ghost use Rattle.strict.specs.Words.{among, differ};
 ghost use Rattle.strict.specs.Inner.{names, named, eights, kerns};
 
-use super::words::{Picked, fit, fork, found, none, peek};
+use super::cursor::{Read, Stuck};
+use super::words::{fit, fork, peek};
+use scalars::Scalar;
 
 // After `i`.
-pub(crate) fn name_i(s: &[u8], at: usize) -> Picked
+pub(crate) fn name_i(s: &[u8], at: usize) -> Result<Read<Scalar>, Stuck>
     requires { at ≤ length s.now }
-    ensures { Told s.now at (among (named (bytes "i")) (drop at s.now)) result.word result.end }
+    ensures { Told s.now at (among (named (bytes "i")) (drop at s.now)) (λ v. v) result }
 {
     match peek(s, at) {
-        49 => fork_i1(s, at + 1),
-        52 => found(1, at + 1),
-        56 => found(2, at + 1),
-        51 => fit(s, at + 1, b"2", 4),
-        54 => fit(s, at + 1, b"4", 5),
-        _ => none(s, at),
+        b'1' => fork_i1(s, at + 1),
+        b'4' => Ok(Read {
+            value: Scalar::I4,
+            end: at + 1,
+        }),
+        b'8' => Ok(Read {
+            value: Scalar::I8,
+            end: at + 1,
+        }),
+        b'3' => fit(s, at + 1, b"2", Scalar::I32),
+        b'6' => fit(s, at + 1, b"4", Scalar::I64),
+        _ => Err(Stuck { at }),
     }
 }
 
 // After `i1`: `i16`, or that is all.
-fn fork_i1(s: &[u8], at: usize) -> Picked
+fn fork_i1(s: &[u8], at: usize) -> Result<Read<Scalar>, Stuck>
     requires { at ≤ length s.now }
-    ensures { Told s.now at (among (named (bytes "i1")) (drop at s.now)) result.word result.end }
+    ensures { Told s.now at (among (named (bytes "i1")) (drop at s.now)) (λ v. v) result }
 {
-    if peek(s, at) == 54 {
-        return found(3, at + 1);
+    if peek(s, at) == b'6' {
+        return Ok(Read {
+            value: Scalar::I16,
+            end: at + 1,
+        });
     }
-    found(0, at)
+    Ok(Read {
+        value: Scalar::I1,
+        end: at,
+    })
 }
 
 // After `f8E` or `f8e`: `4` and `w`, `5` and `m` and one of two, `8` and `x`.
-fn name_f8_by(s: &[u8], at: usize, w: &[u8], m: &[u8], v: &[u8], x: &[u8], k: usize) -> Picked
+fn name_f8_by(
+    s: &[u8],
+    at: usize,
+    w: &[u8],
+    m: &[u8],
+    v: &[u8],
+    x: &[u8],
+) -> Result<Read<Scalar>, Stuck>
     requires at_in_bounds { at ≤ length s.now }
-    requires t { T (differ (bytes "2") v.now) }
-    requires k_bound { k ≤ 1 }
-    ensures { Told s.now at (among (eights w.now m.now v.now x.now k) (drop at s.now)) result.word result.end }
+    requires apart { T (differ (bytes "2") v.now) }
+    ensures { Told s.now at (among (eights w.now m.now v.now x.now) (drop at s.now)) (λ v. v) result }
 {
     let t = &s[..]; // handed on as two words (decision 55)
     match peek(t, at) {
-        52 => fit(t, at + 1, w, 11 + k),
-        53 => {
-            let p = fit(t, at + 1, m, 0);
-            fork(t, p.end, b"2", 13 + k, v, 19 + k)
+        b'4' => fit(t, at + 1, w, Scalar::F8E4M3FN),
+        b'5' => {
+            let p = fit(t, at + 1, m, ())?;
+            fork(t, p.end, b"2", Scalar::F8E5M2, v, Scalar::F8E5M3FNU)
         }
-        56 => fit(t, at + 1, x, 15 + k),
-        _ => none(t, at),
+        b'8' => fit(t, at + 1, x, Scalar::F8E8M0FNU),
+        _ => Err(Stuck { at }),
     }
 }
 
 // After `f8`.
-fn name_f8(s: &[u8], at: usize) -> Picked
+fn name_f8(s: &[u8], at: usize) -> Result<Read<Scalar>, Stuck>
     requires { at ≤ length s.now }
-    ensures { Told s.now at (among (named (bytes "f8")) (drop at s.now)) result.word result.end }
+    ensures { Told s.now at (among (named (bytes "f8")) (drop at s.now)) (λ v. v) result }
 {
     match peek(s, at) {
-        69 => name_f8_by(s, at + 1, b"M3FN", b"M", b"3FNU", b"M0FNU", 0),
-        101 => name_f8_by(s, at + 1, b"m3fn", b"m", b"3fnu", b"m0fnu", 1),
-        _ => none(s, at),
+        b'E' => name_f8_by(s, at + 1, b"M3FN", b"M", b"3FNU", b"M0FNU"),
+        b'e' => name_f8_by(s, at + 1, b"m3fn", b"m", b"3fnu", b"m0fnu"),
+        _ => Err(Stuck { at }),
     }
 }
 
 // After `f`.
-pub(crate) fn name_f(s: &[u8], at: usize) -> Picked
+pub(crate) fn name_f(s: &[u8], at: usize) -> Result<Read<Scalar>, Stuck>
     requires { at ≤ length s.now }
-    ensures { Told s.now at (among (named (bytes "f")) (drop at s.now)) result.word result.end }
+    ensures { Told s.now at (among (named (bytes "f")) (drop at s.now)) (λ v. v) result }
 {
     let t = &s[..]; // handed on as two words (decision 55)
     match peek(t, at) {
-        49 => fit(t, at + 1, b"6", 6),
-        51 => fit(t, at + 1, b"2", 8),
-        52 => fork(t, at + 1, b"E2M1FN", 17, b"e2m1fn", 18),
-        54 => fit(t, at + 1, b"4", 10),
-        56 => name_f8(t, at + 1),
-        _ => none(t, at),
+        b'1' => fit(t, at + 1, b"6", Scalar::F16),
+        b'3' => fit(t, at + 1, b"2", Scalar::F32),
+        b'4' => fork(
+            t,
+            at + 1,
+            b"E2M1FN",
+            Scalar::F4E2M1FN,
+            b"e2m1fn",
+            Scalar::F4E2M1FN,
+        ),
+        b'6' => fit(t, at + 1, b"4", Scalar::F64),
+        b'8' => name_f8(t, at + 1),
+        _ => Err(Stuck { at }),
     }
 }
 
-// A name, from where a part before it ended.
-pub(crate) fn read_name(s: &[u8], from: usize) -> Picked
-    requires { place s.now from ≤ length s.now }
-    ensures { Told s.now (place s.now from) (next s.now (choose names) from) result.word result.end }
+// A name.
+pub(crate) fn read_name(s: &[u8], at: usize) -> Result<Read<Scalar>, Stuck>
+    requires { at ≤ length s.now }
+    ensures { Told s.now at (among names (drop at s.now)) (λ v. v) result }
 {
     let t = &s[..]; // handed on as two words (decision 55)
-    if s.len() < from {
-        return found(0, from);
-    }
-    match peek(t, from) {
-        98 => fork(t, from + 1, b"f16", 7, b"ool", 21),
-        102 => name_f(t, from + 1),
-        105 => name_i(t, from + 1),
-        116 => fit(t, from + 1, b"f32", 9),
-        _ => none(t, from),
+    match peek(t, at) {
+        b'b' => fork(t, at + 1, b"f16", Scalar::BF16, b"ool", Scalar::I1),
+        b'f' => name_f(t, at + 1),
+        b'i' => name_i(t, at + 1),
+        b't' => fit(t, at + 1, b"f32", Scalar::TF32),
+        _ => Err(Stuck { at }),
     }
 }
 
-// A name, or the beginning of a pointer.
-pub(crate) fn read_core_name(s: &[u8], from: usize) -> Picked
-    requires { place s.now from ≤ length s.now }
-    ensures { Told s.now (place s.now from) (next s.now (choose kerns) from) result.word result.end }
+// A name; or the beginning of a pointer, which is none.
+pub(crate) fn read_core_name(s: &[u8], at: usize) -> Result<Read<Option<Scalar>>, Stuck>
+    requires { at ≤ length s.now }
+    ensures { Told s.now at (among kerns (drop at s.now)) (λ v. v) result }
 {
     let t = &s[..]; // handed on as two words (decision 55)
-    if s.len() < from {
-        return found(0, from);
-    }
-    match peek(t, from) {
-        33 => fit(t, from + 1, b"cuda_tile.ptr<", 23),
-        112 => fit(t, from + 1, b"tr<", 22),
-        _ => read_name(t, from),
+    match peek(t, at) {
+        b'!' => fit(t, at + 1, b"cuda_tile.ptr<", None),
+        b'p' => fit(t, at + 1, b"tr<", None),
+        _ => {
+            let n = read_name(t, at)?;
+            Ok(Read {
+                value: Some(n.value),
+                end: n.end,
+            })
+        }
     }
 }

@@ -1,22 +1,22 @@
 // The parts of the three views, from the entries of the tile to the closing `>`.
-ghost use Rattle.std.specs.Prelude.{◌≡◌, [], length, ◌≤◌};
+ghost use Rattle.std.specs.Prelude.{◌≡◌, [], drop, length, ◌≤◌};
 ghost use Rattle.meaning.specs.Found.{padded};
-ghost use Rattle.strict.specs.Cursor.{Told, place};
-ghost use Rattle.strict.specs.Words.{next};
+ghost use Rattle.strict.specs.Cursor.{Told};
 ghost use Rattle.strict.specs.Lists.{row};
-ghost use Rattle.strict.specs.Views.{sight, sighted, walking, map_part, sparse_part, closed, ending};
+ghost use Rattle.strict.specs.Views.{sight, sighted, walking, map_part, sparse_part, enclosed, ending};
 
+use super::cursor::{Read, Stuck};
 use super::inner::{Tensor, read_tensor};
-use super::list::{Listed, read_list32};
+use super::list::read_list;
 use super::middles::{read_lead, read_pad};
-use super::number::{Num32, number32};
-use super::words::{read_two, read_word};
+use super::number::number32;
+use super::words::{fit, read_two};
+use meaning::Padding;
 
-// A tensor view, and the padding before it by its number.
+// A tensor view, and the padding before it.
 #[derive(Clone, Copy)]
 pub(crate) struct Sight {
-    pub(crate) padded: bool,
-    pub(crate) pad: usize,
+    pub(crate) padding: Padding,
     pub(crate) tensor: Tensor,
 }
 
@@ -25,112 +25,119 @@ pub(crate) struct Sight {
 pub(crate) struct Last {
     pub(crate) map: usize,
     pub(crate) sparse: i32,
-    pub(crate) end: usize,
 }
 
-// What follows the word `k` that opens a tensor view or a padding.
+// What follows the word that opens a tensor view or, where it is `led`, a padding.
 pub(crate) fn read_sight(
     s: &[u8],
-    from: usize,
-    k: usize,
+    at: usize,
+    led: bool,
     shape: &mut [i64],
     strides: &mut [i64],
-) -> Sight
-    requires from_in_bounds { place s.now from ≤ length s.now }
+) -> Result<Read<Sight>, Stuck>
+    requires at_in_bounds { at ≤ length s.now }
     requires shape_value { shape.old ≡ padded 8 [] }
     requires strides_value { strides.old ≡ padded 8 [] }
-    ensures { Told s.now (place s.now from) (next s.now (sight k) from) (sighted shape.new strides.new result) result.tensor.end }
+    ensures { Told s.now at (sight led (drop at s.now)) (sighted shape.new strides.new) result }
 {
-    if k < 2 {
-        let p = read_pad(s, from);
-        let l = read_lead(s, p.end);
-        let tensor = read_tensor(s, l.end, shape, strides);
-        return Sight {
-            padded: true,
-            pad: p.word,
-            tensor,
-        };
+    if led {
+        let p = read_pad(s, at)?;
+        let l = read_lead(s, p.end)?;
+        let t = read_tensor(s, l.end, shape, strides)?;
+        return Ok(Read {
+            value: Sight {
+                padding: p.value,
+                tensor: t.value,
+            },
+            end: t.end,
+        });
     }
-    let tensor = read_tensor(s, from, shape, strides);
-    Sight {
-        padded: false,
-        pad: 0,
-        tensor,
-    }
+    let t = read_tensor(s, at, shape, strides)?;
+    Ok(Read {
+        value: Sight {
+            padding: Padding::Absent,
+            tensor: t.value,
+        },
+        end: t.end,
+    })
 }
 
 // In a strided view, the traversal after the tile.
-pub(crate) fn read_walk(s: &[u8], from: usize, bare: bool, walk: &mut [i32]) -> Listed
-    requires from_in_bounds { place s.now from ≤ length s.now }
+pub(crate) fn read_walk(
+    s: &[u8],
+    at: usize,
+    bare: bool,
+    walk: &mut [i32],
+) -> Result<Read<usize>, Stuck>
+    requires at_in_bounds { at ≤ length s.now }
     requires walk_value { walk.old ≡ padded 8 [] }
-    ensures { Told s.now (place s.now from) (next s.now (walking bare) from) (row walk.new result.len) result.end }
+    ensures { Told s.now at (walking bare (drop at s.now)) (row walk.new) result }
 {
     if bare {
-        return Listed { len: 0, end: from };
+        return Ok(Read { value: 0, end: at });
     }
     let k = read_two(
         s,
-        from,
+        at,
         b"),",
         b"traversal_strides=[",
         b" traversal_strides=[",
-    );
-    read_list32(s, k.end, false, walk)
+    )?;
+    read_list(s, k.end, walk)
 }
 
 // The dimension map, and the end of the view.
-fn read_map(s: &[u8], from: usize, map: &mut [i32]) -> Listed
-    requires from_in_bounds { place s.now from ≤ length s.now }
+fn read_map(s: &[u8], at: usize, map: &mut [i32]) -> Result<Read<usize>, Stuck>
+    requires at_in_bounds { at ≤ length s.now }
     requires map_value { map.old ≡ padded 8 [] }
-    ensures { Told s.now (place s.now from) (next s.now map_part from) (row map.new result.len) result.end }
+    ensures { Told s.now at (map_part (drop at s.now)) (row map.new) result }
 {
-    let k = read_two(s, from, b",", b"dim_map=[", b" dim_map=[");
-    let l = read_list32(s, k.end, false, map);
-    let m = read_word(s, l.end, b"]>");
-    Listed {
-        len: l.len,
+    let k = read_two(s, at, b",", b"dim_map=[", b" dim_map=[")?;
+    let l = read_list(s, k.end, map)?;
+    let m = fit(s, l.end, b"]>", ())?;
+    Ok(Read {
+        value: l.value,
         end: m.end,
-    }
+    })
 }
 
 // The sparse dimension, and the end of the view.
-fn read_sparse(s: &[u8], from: usize) -> Num32
-    requires { place s.now from ≤ length s.now }
-    ensures { Told s.now (place s.now from) (next s.now sparse_part from) result.value result.end }
+fn read_sparse(s: &[u8], at: usize) -> Result<Read<i32>, Stuck>
+    requires { at ≤ length s.now }
+    ensures { Told s.now at (sparse_part (drop at s.now)) (λ z. z) result }
 {
-    let k = read_two(s, from, b",", b"sparse_dim=", b" sparse_dim=");
-    if s.len() < k.end {
-        return Num32 {
-            value: 0,
-            end: k.end,
-        };
-    }
-    let n = number32(s, k.end);
-    let m = read_word(s, n.end, b">");
-    Num32 {
-        value: n.value,
-        end: m.end,
-    }
+    let k = read_two(s, at, b",", b"sparse_dim=", b" sparse_dim=")?;
+    let n = number32(s, k.end)?;
+    fit(s, n.end, b">", n.value)
 }
 
 // The end of a view: its sparse dimension, or its map.
-pub(crate) fn read_last(s: &[u8], from: usize, sparse: bool, map: &mut [i32]) -> Last
-    requires from_in_bounds { place s.now from ≤ length s.now }
+pub(crate) fn read_last(
+    s: &[u8],
+    at: usize,
+    sparse: bool,
+    map: &mut [i32],
+) -> Result<Read<Last>, Stuck>
+    requires at_in_bounds { at ≤ length s.now }
     requires map_value { map.old ≡ padded 8 [] }
-    ensures { Told s.now (place s.now from) (next s.now (ending sparse) from) (closed (row map.new result.map) result.sparse) result.end }
+    ensures { Told s.now at (ending sparse (drop at s.now)) (enclosed map.new) result }
 {
     if sparse {
-        let n = read_sparse(s, from);
-        return Last {
-            map: 0,
-            sparse: n.value,
+        let n = read_sparse(s, at)?;
+        return Ok(Read {
+            value: Last {
+                map: 0,
+                sparse: n.value,
+            },
             end: n.end,
-        };
+        });
     }
-    let m = read_map(s, from, map);
-    Last {
-        map: m.len,
-        sparse: 0,
+    let m = read_map(s, at, map)?;
+    Ok(Read {
+        value: Last {
+            map: m.value,
+            sparse: 0,
+        },
         end: m.end,
-    }
+    })
 }

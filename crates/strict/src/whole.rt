@@ -1,23 +1,24 @@
 // A whole strict form: the first word tells the kind and what follows.
-ghost use Rattle.std.specs.Prelude.{◌≡◌, [], ltb, length, ◌≤◌};
+ghost use Rattle.std.specs.Prelude.{◌≡◌, [], drop, length, ◌≤◌, not};
 ghost use Rattle.meaning.specs.Found.{padded};
-ghost use Rattle.strict.specs.Cursor.{Told, place};
-ghost use Rattle.strict.specs.Words.{next};
-ghost use Rattle.strict.specs.Whole.{plainly, kind_by, entire, from_partition, whole};
+ghost use Rattle.strict.specs.Cursor.{Told};
+ghost use Rattle.strict.specs.Whole.{plainly, is_strided, is_gather, entire, view, whole};
 
-use super::heads::read_head;
+use super::cursor::{Read, Stuck};
+use super::heads::{Head, read_head};
 use super::inner::{read_pointee, read_tensor, read_tile};
-use super::list::read_list32;
+use super::list::read_entries;
 use super::middles::read_mid;
 use super::view::{read_last, read_sight, read_walk};
-use meaning::Kind;
+use meaning::{Kind, Padding};
+use scalars::Scalar;
 
-// A type of any rank: a scalar and a padding by their numbers, and how many entries its lists have.
+// A type of any rank, with how many entries its lists have.
 #[derive(Clone, Copy)]
 pub(crate) struct Whole {
     pub(crate) kind: Kind,
     pub(crate) pointer: bool,
-    pub(crate) word: usize,
+    pub(crate) element: Scalar,
     pub(crate) marked: bool,
     pub(crate) shape: usize,
     pub(crate) strides: usize,
@@ -25,27 +26,24 @@ pub(crate) struct Whole {
     pub(crate) map: usize,
     pub(crate) walk: usize,
     pub(crate) sparse: i32,
-    pub(crate) padded: bool,
-    pub(crate) pad: usize,
-    pub(crate) end: usize,
+    pub(crate) padding: Padding,
 }
 
 // A type that is no view.
 fn made(
     kind: Kind,
     pointer: bool,
-    word: usize,
+    element: Scalar,
     marked: bool,
     shape: usize,
     strides: usize,
-    end: usize,
 ) -> Whole
-    ensures { result ≡ plainly kind pointer word marked shape strides end }
+    ensures { result ≡ plainly kind pointer element marked shape strides }
 {
     Whole {
         kind,
         pointer,
-        word,
+        element,
         marked,
         shape,
         strides,
@@ -53,71 +51,70 @@ fn made(
         map: 0,
         walk: 0,
         sparse: 0,
-        padded: false,
-        pad: 0,
-        end,
+        padding: Padding::Absent,
     }
 }
 
-// The kind of a view, by its first word.
-fn view_kind(k: usize) -> Kind
-    ensures { result ≡ kind_by (ltb k 32) (ltb k 34) }
+// A view's tile is followed by a traversal.
+fn is_strided(kind: Kind) -> bool
+    ensures { result ≡ is_strided kind }
 {
-    if k < 32 {
-        return Kind::Partition;
-    }
-    if k < 34 {
-        return Kind::GatherScatter;
-    }
-    Kind::Strided
+    matches!(kind, Kind::Strided)
 }
 
-// After the first word `k`: a partition view, a gather-scatter view or a strided view.
+// A view ends with its sparse dimension.
+fn is_gather(kind: Kind) -> bool
+    ensures { result ≡ is_gather kind }
+{
+    matches!(kind, Kind::GatherScatter)
+}
+
+// After the first word: a partition view, a gather-scatter view or a strided view.
 fn read_view(
     s: &[u8],
-    from: usize,
-    k: usize,
+    at: usize,
+    kind: Kind,
     shape: &mut [i64],
     strides: &mut [i64],
     tile: &mut [i32],
     map: &mut [i32],
     walk: &mut [i32],
-) -> Whole
-    requires from_in_bounds { place s.now from ≤ length s.now }
+) -> Result<Read<Whole>, Stuck>
+    requires at_in_bounds { at ≤ length s.now }
     requires shape_value { shape.old ≡ padded 8 [] }
     requires strides_value { strides.old ≡ padded 8 [] }
     requires tile_value { tile.old ≡ padded 8 [] }
     requires map_value { map.old ≡ padded 8 [] }
     requires walk_value { walk.old ≡ padded 8 [] }
-    ensures { Told s.now (place s.now from) (next s.now (from_partition k) from) (entire shape.new strides.new tile.new map.new walk.new result) result.end }
+    ensures { Told s.now at (view kind (not (is_strided kind)) (is_gather kind) (drop at s.now)) (entire shape.new strides.new tile.new map.new walk.new) result }
 {
-    let bare = k < 34;
-    let t = read_list32(s, from, true, tile);
-    let w = read_walk(s, t.end, bare, walk);
-    let m = read_mid(s, w.end, bare);
-    let sight = read_sight(s, m.end, m.word, shape, strides);
-    let tensor = sight.tensor;
-    let e = read_last(s, tensor.end, bare & !(k < 32), map);
-    let kind = view_kind(k);
-    let sparse = e.sparse;
-    Whole {
-        kind,
-        pointer: false,
-        word: tensor.word,
-        marked: tensor.marked,
-        shape: tensor.rank,
-        strides: tensor.len,
-        tile: t.len,
-        map: e.map,
-        walk: w.len,
-        sparse,
-        padded: sight.padded,
-        pad: sight.pad,
+    let bare = !is_strided(kind);
+    let sparse = is_gather(kind);
+    let t = read_entries(s, at, tile)?;
+    let w = read_walk(s, t.end, bare, walk)?;
+    let m = read_mid(s, w.end, bare)?;
+    let v = read_sight(s, m.end, m.value, shape, strides)?;
+    let e = read_last(s, v.end, sparse, map)?;
+    let tensor = v.value.tensor;
+    Ok(Read {
+        value: Whole {
+            kind,
+            pointer: false,
+            element: tensor.element,
+            marked: tensor.rest.marked,
+            shape: tensor.rank,
+            strides: tensor.rest.len,
+            tile: t.value,
+            map: e.value.map,
+            walk: w.value,
+            sparse: e.value.sparse,
+            padding: v.value.padding,
+        },
         end: e.end,
-    }
+    })
 }
 
-// A whole strict form from the start of the text, with the place where it ends or is stuck. Its lists are laid into five blank ones.
+// A whole strict form from the start of the text. Its lists are laid into five blank ones.
 pub(crate) fn read_whole(
     s: &[u8],
     shape: &mut [i64],
@@ -125,41 +122,66 @@ pub(crate) fn read_whole(
     tile: &mut [i32],
     map: &mut [i32],
     walk: &mut [i32],
-) -> Whole
+) -> Result<Read<Whole>, Stuck>
     requires shape_value { shape.old ≡ padded 8 [] }
     requires strides_value { strides.old ≡ padded 8 [] }
     requires tile_value { tile.old ≡ padded 8 [] }
     requires map_value { map.old ≡ padded 8 [] }
     requires walk_value { walk.old ≡ padded 8 [] }
-    ensures { Told s.now 0 (whole s.now) (entire shape.new strides.new tile.new map.new walk.new result) result.end }
+    ensures { Told s.now 0 (whole s.now) (entire shape.new strides.new tile.new map.new walk.new) result }
 {
-    let k = read_head(s);
-    if k.word < 22 {
-        return made(Kind::Scalar, false, k.word, false, 0, 0, k.end);
+    let h = read_head(s)?;
+    match h.value {
+        Head::Scalar(element) => Ok(Read {
+            value: made(Kind::Scalar, false, element, false, 0, 0),
+            end: h.end,
+        }),
+        Head::Token => Ok(Read {
+            value: made(Kind::Token, false, Scalar::I1, false, 0, 0),
+            end: h.end,
+        }),
+        Head::Pointer => {
+            let p = read_pointee(s, h.end, b">", b", #cuda_tile.ptr_attr<none>>")?;
+            let c = p.value;
+            Ok(Read {
+                value: made(Kind::Pointer, false, c.element, c.marked, 0, 0),
+                end: p.end,
+            })
+        }
+        Head::Tile => {
+            let t = read_tile(s, h.end, shape)?;
+            let c = t.value.core;
+            Ok(Read {
+                value: made(Kind::Tile, c.pointer, c.element, c.marked, t.value.rank, 0),
+                end: t.end,
+            })
+        }
+        Head::TensorView => {
+            let t = read_tensor(s, h.end, shape, strides)?;
+            let v = t.value;
+            Ok(Read {
+                value: made(
+                    Kind::TensorView,
+                    false,
+                    v.element,
+                    v.rest.marked,
+                    v.rank,
+                    v.rest.len,
+                ),
+                end: t.end,
+            })
+        }
+        Head::Partition => read_view(s, h.end, Kind::Partition, shape, strides, tile, map, walk),
+        Head::GatherScatter => read_view(
+            s,
+            h.end,
+            Kind::GatherScatter,
+            shape,
+            strides,
+            tile,
+            map,
+            walk,
+        ),
+        Head::Strided => read_view(s, h.end, Kind::Strided, shape, strides, tile, map, walk),
     }
-    if k.word < 24 {
-        return made(Kind::Token, false, 0, false, 0, 0, k.end);
-    }
-    if k.word < 26 {
-        let c = read_pointee(s, k.end, b">", b", #cuda_tile.ptr_attr<none>>");
-        return made(Kind::Pointer, false, c.word, c.marked, 0, 0, c.end);
-    }
-    if k.word < 28 {
-        let t = read_tile(s, k.end, shape);
-        let c = t.core;
-        return made(Kind::Tile, c.pointer, c.word, c.marked, t.rank, 0, c.end);
-    }
-    if k.word < 30 {
-        let t = read_tensor(s, k.end, shape, strides);
-        return made(
-            Kind::TensorView,
-            false,
-            t.word,
-            t.marked,
-            t.rank,
-            t.len,
-            t.end,
-        );
-    }
-    read_view(s, k.end, k.word, shape, strides, tile, map, walk)
 }

@@ -1,17 +1,10 @@
-// Words at a place: one word, or one of two that differ in their first byte.
-ghost use Rattle.std.specs.Prelude.{◌≡◌, [], ◌∷◌, T, drop, length, get_or, ◌≤◌};
+// Words at a place: one word, or one of two that differ in their first byte. Each says something, as in a table.
+ghost use Rattle.std.specs.Prelude.{◌≡◌, [], ◌∷◌, T, false, true, drop, length, get_or, ◌≤◌};
 ghost use Rattle.grammar.specs.Table.{◌↝◌};
-ghost use Rattle.strict.specs.Cursor.{Told, place, stuck_at};
-ghost use Rattle.strict.specs.Words.{next, among, differ, ended, both};
+ghost use Rattle.strict.specs.Cursor.{Told};
+ghost use Rattle.strict.specs.Words.{among, differ, both};
 
-use super::number::stuck;
-
-// The number of a word in its table, with the place after it.
-#[derive(Clone, Copy)]
-pub(crate) struct Picked {
-    pub(crate) word: usize,
-    pub(crate) end: usize,
-}
+use super::cursor::{Read, Stuck};
 
 // The byte at a place; 0 past the end.
 pub(crate) fn peek(s: &[u8], at: usize) -> u8
@@ -23,77 +16,58 @@ pub(crate) fn peek(s: &[u8], at: usize) -> u8
     0
 }
 
-// The word `k`, with its end.
-pub(crate) fn found(k: usize, at: usize) -> Picked
-    ensures { result ≡ ended k at }
-{
-    Picked { word: k, end: at }
-}
-
-// No word goes on at `at`.
-pub(crate) fn none(s: &[u8], at: usize) -> Picked
+// The word `w`, which says `value`.
+pub(crate) fn fit<V: Copy>(s: &[u8], at: usize, w: &[u8], value: V) -> Result<Read<V>, Stuck>
     requires { at ≤ length s.now }
-    ensures { result ≡ ended 0 (stuck_at s.now at) }
-{
-    Picked {
-        word: 0,
-        end: stuck(s, at),
-    }
-}
-
-// The word `w`, of the number `k`.
-pub(crate) fn fit(s: &[u8], at: usize, w: &[u8], k: usize) -> Picked
-    requires { at ≤ length s.now }
-    ensures { Told s.now at (among ((w.now ↝ k) ∷ []) (drop at s.now)) result.word result.end }
+    ensures { Told s.now at (among ((w.now ↝ value) ∷ []) (drop at s.now)) (λ v. v) result }
 {
     let mut i = at;
     let mut j = 0;
     while j < w.len() {
         if s.len() <= i {
-            return none(s, i);
+            return Err(Stuck { at: i });
         }
         if s[i] != w[j] {
-            return none(s, i);
+            return Err(Stuck { at: i });
         }
         i += 1;
         j += 1;
     }
-    found(k, i)
+    Ok(Read { value, end: i })
 }
 
-// The same from where a part before it ended.
-pub(crate) fn read_word(s: &[u8], from: usize, w: &[u8]) -> Picked
-    requires { place s.now from ≤ length s.now }
-    ensures { Told s.now (place s.now from) (next s.now (among ((w.now ↝ 0) ∷ [])) from) result.word result.end }
+// The word `v` or the word `w`, by the first byte of `w`; one says `j`, the other `k`.
+pub(crate) fn fork<V: Copy>(
+    s: &[u8],
+    at: usize,
+    v: &[u8],
+    j: V,
+    w: &[u8],
+    k: V,
+) -> Result<Read<V>, Stuck>
+    requires at_in_bounds { at ≤ length s.now }
+    requires apart { T (differ v.now w.now) }
+    ensures { Told s.now at (among ((v.now ↝ j) ∷ (w.now ↝ k) ∷ []) (drop at s.now)) (λ v. v) result }
 {
-    if s.len() < from {
-        return found(0, from);
+    if peek(s, at) == w[0] {
+        return fit(s, at, w, k);
     }
-    fit(s, from, w, 0)
+    fit(s, at, v, j)
 }
 
-// The word `v` or the word `w`, by the first byte of `w`.
-pub(crate) fn fork(s: &[u8], from: usize, v: &[u8], j: usize, w: &[u8], k: usize) -> Picked
-    requires from_in_bounds { place s.now from ≤ length s.now }
-    requires t { T (differ v.now w.now) }
-    ensures { Told s.now (place s.now from) (next s.now (among ((v.now ↝ j) ∷ (w.now ↝ k) ∷ [])) from) result.word result.end }
-{
-    if s.len() < from {
-        return found(0, from);
-    }
-    if peek(s, from) == w[0] {
-        return fit(s, from, w, k);
-    }
-    fit(s, from, v, j)
-}
-
-// The same two after the word `lead`.
-pub(crate) fn read_two(s: &[u8], from: usize, lead: &[u8], v: &[u8], w: &[u8]) -> Picked
-    requires from_in_bounds { place s.now from ≤ length s.now }
-    requires t { T (differ v.now w.now) }
-    ensures { Told s.now (place s.now from) (next s.now (among (both lead.now v.now 0 w.now 1)) from) result.word result.end }
+// One of two words after the word `lead`, and whether it is the second.
+pub(crate) fn read_two(
+    s: &[u8],
+    at: usize,
+    lead: &[u8],
+    v: &[u8],
+    w: &[u8],
+) -> Result<Read<bool>, Stuck>
+    requires at_in_bounds { at ≤ length s.now }
+    requires apart { T (differ v.now w.now) }
+    ensures { Told s.now at (among (both lead.now v.now false w.now true) (drop at s.now)) (λ v. v) result }
 {
     let t = &s[..]; // handed on as two words (decision 55)
-    let p = read_word(t, from, lead);
-    fork(t, p.end, v, 0, w, 1)
+    let p = fit(t, at, lead, ())?;
+    fork(t, p.end, v, false, w, true)
 }

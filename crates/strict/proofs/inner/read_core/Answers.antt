@@ -1,32 +1,22 @@
 -- `read_core` meets its contract: a name or a pointer, then the end of the tile.
 use Rattle.strict.proofs.Chain as H
-use Rattle.strict.specs.Inner as I
-use Rattle.strict.proofs.Insides as L
-use Rattle.strict.specs.Words.{choose, among}
-use Rattle.lexis.specs.Text.{bytes}
-use Prim.Native.Nat.{ℕ}
-use mathlib.Core.Path.{◌∙◌}
-use native.Mathlib.Omega.{arith}
-use borrow.Author.Rules.{rules}
+use mathlib.Core.Path.{refl, ap}
+use Rattle.strict.specs.Inner.{core, core_of}
+use lib.ListN.{drop}
 use Rattle.strict.proofs.inner.read_core.Goals as goal
 
-pub returns-then-k-lt22 : goal.returns-then-k-lt22
-unfolding choose among
-returns-then-k-lt22 c = let a = c.args in let s = a.s.now in let n = c.read_core_name-k in let m = c.read_word-m in let o = n.ensures.onward in let q = m.ensures.onward in
-    record {
-      same = L.core_is s a.from ∙ H.chain s (choose I.kerns) I.core_of n.result.word a.from n.result.end n.ensures.same
-          ∙ L.core_plain s n.result.end n.result.word (search rules)
-          ∙ H.last s (choose (bytes ">|")) (λ (k : ℕ). I.plain n.result.word) m.result.word n.result.end m.result.end m.ensures.same;
-      inside = m.ensures.inside;
-      onward = omega arith;
-    }
+pub returns-in_err-k : goal.returns-in_err-k
+unfolding core
+returns-in_err-k c = H.stops _ c.in_err-k.ensures c.from_residual.ensures.1
+
+pub returns-in_default : goal.returns-in_default
+unfolding core
+returns-in_default c = H.goes _ c.in_ok-k.ensures (H.same_as (ap (λ v. core_of v (drop c.in_ok-k.k.end c.args.s.now)) c.in_default.is) (c.read_pointee.ensures))
+
+pub returns-in_err-m : goal.returns-in_err-m
+unfolding core
+returns-in_err-m c = H.goes _ c.in_ok-k.ensures (H.same_as (ap (λ v. core_of v (drop c.in_ok-k.k.end c.args.s.now)) c.in-Some.is) (H.halts _ c.in_err-m.ensures c.from_residual-in_err-m.ensures.1))
 
 pub returns : goal.returns
-unfolding choose among
-returns c = let a = c.args in let s = a.s.now in let n = c.read_core_name-k in let m = c.read_pointee in let o = n.ensures.onward in let q = m.ensures.onward in
-    record {
-      same = L.core_is s a.from ∙ H.chain s (choose I.kerns) I.core_of n.result.word a.from n.result.end n.ensures.same
-          ∙ L.core_point s n.result.end n.result.word (search rules) ∙ m.ensures.same;
-      inside = m.ensures.inside;
-      onward = omega arith;
-    }
+unfolding core
+returns c = H.goes _ c.in_ok-k.ensures (H.same_as (ap (λ v. core_of v (drop c.in_ok-k.k.end c.args.s.now)) c.in-Some.is) (H.ends _ c.in_ok-m.ensures refl))

@@ -1,19 +1,13 @@
 -- `read_pointee` meets its contract: a name, then one of the two words that close the pointer.
 use Rattle.strict.proofs.Chain as H
-use Rattle.strict.specs.Inner as I
-use Rattle.strict.specs.Words.{choose, among}
-use Rattle.grammar.specs.Join.{mapped}
-use Rattle.grammar.specs.Table.{◌↝◌}
-use mathlib.Core.List.{[], ◌∷◌}
-use mathlib.Core.Path.{◌∙◌}
-use native.Mathlib.Omega.{arith}
+use mathlib.Core.Path.{refl}
 use Rattle.strict.proofs.inner.read_pointee.Goals as goal
 
+pub returns-in_err-n : goal.returns-in_err-n
+returns-in_err-n c = H.stops _ c.in_err-n.ensures c.from_residual.ensures.1
+
+pub returns-in_err-m : goal.returns-in_err-m
+returns-in_err-m c = H.goes _ c.in_ok-n.ensures (H.halts _ c.in_err-m.ensures c.from_residual-in_err-m.ensures.1)
+
 pub returns : goal.returns
-returns c = let a = c.args in let s = a.s.now in let n = c.read_name-n in let m = c.fork-m in let f = among ((a.bare.now ↝ 0) ∷ (a.marked.now ↝ 1) ∷ []) in let o = n.ensures.onward in let q = m.ensures.onward in
-    record {
-      same = H.chain s (choose I.names) (λ k r. mapped (I.closed k) (f r)) n.result.word a.from n.result.end n.ensures.same
-          ∙ H.last s f (I.closed n.result.word) m.result.word n.result.end m.result.end m.ensures.same;
-      inside = m.ensures.inside;
-      onward = omega arith;
-    }
+returns c = H.goes _ c.in_ok-n.ensures (H.ends _ c.in_ok-m.ensures refl)

@@ -1,43 +1,27 @@
 -- `read_rest` meets its contract: at rank 0 the end or a list, else a list.
 use Rattle.strict.proofs.Chain as H
-use Rattle.strict.specs.Cursor as C
-use Rattle.strict.specs.Inner as I
-use Rattle.strict.proofs.Insides as L
-use Rattle.strict.specs.Words.{choose, among}
-use Rattle.strict.specs.Lists.{row}
-use mathlib.Core.List.{List}
-use lib.IntN.{ℤ}
-use mathlib.Core.Path.{sym, ap, ◌∙◌}
-use native.Mathlib.Omega.{arith}
-use borrow.Author.Rules.{rules}
+use Rattle.strict.proofs.Insides as G
+use mathlib.Core.Path.{ap}
+use Rattle.strict.specs.Inner.{rest, begun}
+use lib.ListN.{drop}
 use Rattle.strict.proofs.inner.read_rest.Goals as goal
 
-pub returns-then-k-lt2 : goal.returns-then-k-lt2
-unfolding choose among
-returns-then-k-lt2 c = let a = c.args in let s = a.s.now in let n = c.read_open-k in let o = n.ensures.onward in
-    record {
-      same = L.rest_zero s a.from a.rank c.if-rank-eq0.true ∙ H.chain s (choose I.opened) I.begun n.result.word a.from n.result.end n.ensures.same
-          ∙ L.begun_end s n.result.end n.result.word (search rules)
-          ∙ ap (λ (x : List ℤ). C.valued s (I.rest_of (row x 0) n.result.word) n.result.end) (sym c.requires.strides_value);
-      inside = n.ensures.inside;
-      onward = omega arith;
-    }
+pub returns-in_err-k : goal.returns-in_err-k
+unfolding rest
+returns-in_err-k c = H.same_as (G.zero _ _ c.args.rank c.if-rank-eq0.true) (H.stops _ c.in_err-k.ensures c.from_residual.ensures.1)
+
+pub returns-in-Some : goal.returns-in-Some
+unfolding rest
+returns-in-Some c = H.same_as (G.zero _ _ c.args.rank c.if-rank-eq0.true) (H.goes _ c.in_ok-k.ensures (H.same_as (ap (λ v. begun v (drop c.in_ok-k.k.end c.args.s.now)) c.in-Some.is) (H.done (rw c.requires.strides_value) c.in_ok-k.ensures.inside)))
 
 pub returns-then-rank-eq0 : goal.returns-then-rank-eq0
-unfolding choose among
-returns-then-rank-eq0 c = let a = c.args in let s = a.s.now in let n = c.read_open-k in let m = c.read_strides in let o = n.ensures.onward in let q = m.ensures.onward in
-    record {
-      same = L.rest_zero s a.from a.rank c.if-rank-eq0.true ∙ H.chain s (choose I.opened) I.begun n.result.word a.from n.result.end n.ensures.same
-          ∙ L.begun_list s n.result.end n.result.word (search rules) ∙ m.ensures.same;
-      inside = m.ensures.inside;
-      onward = omega arith;
-    }
+unfolding rest
+returns-then-rank-eq0 c = H.same_as (G.zero _ _ c.args.rank c.if-rank-eq0.true) (H.goes _ c.in_ok-k.ensures (H.same_as (ap (λ v. begun v (drop c.in_ok-k.k.end c.args.s.now)) c.in_default.is) (c.read_strides.ensures)))
+
+pub returns-in_err-k-2 : goal.returns-in_err-k-2
+unfolding rest
+returns-in_err-k-2 c = H.same_as (G.some _ _ c.args.rank c.if-rank-eq0.false) (H.stops _ c.in_err-k-2.ensures c.from_residual-in_err-k-2.ensures.1)
 
 pub returns : goal.returns
-unfolding choose among
-returns c = let a = c.args in let s = a.s.now in let n = c.read_two-k in let m = c.read_strides-2 in let o = n.ensures.onward in let q = m.ensures.onward in
-    record {
-      same = L.rest_some s a.from a.rank c.if-rank-eq0.false ∙ H.chain s (choose I.must) I.given n.result.word a.from n.result.end n.ensures.same ∙ m.ensures.same;
-      inside = m.ensures.inside;
-      onward = omega arith;
-    }
+unfolding rest
+returns c = H.same_as (G.some _ _ c.args.rank c.if-rank-eq0.false) (H.goes _ c.in_ok-k-2.ensures c.read_strides-2.ensures)

@@ -1,20 +1,18 @@
 -- `read_strides` meets its contract: a list, then what ends the tensor view.
 use Rattle.strict.proofs.Chain as H
-use Rattle.strict.specs.Inner as I
-use Rattle.strict.proofs.Insides as L
-use Rattle.strict.specs.Words.{choose, among}
-use Rattle.strict.specs.Lists.{row}
-use Rattle.grammar.specs.Join.{mapped}
-use mathlib.Core.Path.{◌∙◌}
-use native.Mathlib.Omega.{arith}
+use mathlib.Core.Path.{refl}
+use Rattle.strict.specs.Inner.{listed}
+use Rattle.strict.proofs.Listing as L
 use Rattle.strict.proofs.inner.read_strides.Goals as goal
 
+pub returns-in_err-l : goal.returns-in_err-l
+unfolding listed
+returns-in_err-l c = H.stops _ (L.blank _ c.requires.strides_value c.in_err-l.ensures) c.from_residual.ensures.1
+
+pub returns-in_err-m : goal.returns-in_err-m
+unfolding listed
+returns-in_err-m c = H.goes _ (L.blank _ c.requires.strides_value c.in_ok-l.ensures) (H.halts _ c.in_err-m.ensures c.from_residual-in_err-m.ensures.1)
+
 pub returns : goal.returns
-unfolding choose among
-returns c = let a = c.args in let s = a.s.now in let n = c.read_list64-l in let m = c.read_two-m in let l = row n.new.out n.result.len in let o = n.ensures.onward in let q = m.ensures.onward in
-    record {
-      same = L.listed_is s a.from ∙ H.chain s I.strides (λ l r. mapped (I.rest_of l) (choose I.brackets r)) l a.from n.result.end n.ensures.same
-          ∙ H.last s (choose I.brackets) (I.rest_of l) m.result.word n.result.end m.result.end m.ensures.same;
-      inside = m.ensures.inside;
-      onward = omega arith;
-    }
+unfolding listed
+returns c = H.goes _ (L.blank _ c.requires.strides_value c.in_ok-l.ensures) (H.ends _ c.in_ok-m.ensures refl)

@@ -1,22 +1,12 @@
 -- `read_open` meets its contract: the end, or what follows a comma.
-use Rattle.strict.proofs.Cursors as C
 use Rattle.strict.proofs.Tree as L
-use Rattle.lexis.specs.Text.{bytes}
-use Rattle.strict.specs.Words as W
-use Rattle.strict.specs.Inner as I
-use Prim.Native.Nat.{◌+◌}
-use mathlib.Core.Path.{sym, ◌∙◌}
-use borrow.Author.Rules.{rules}
 use Rattle.strict.proofs.middles.read_open.Goals as goal
 
-pub returns-then-s-from : goal.returns-then-s-from
-unfolding W.choose W.among
-returns-then-s-from c = let a = c.args in L.idle a.s.now (W.choose I.opened) a.from c.found.result (search rules) c.requires c.found.ensures
-
 pub returns-then-peek-eq62 : goal.returns-then-peek-eq62
-unfolding W.choose W.among
-returns-then-peek-eq62 c = let a = c.args in let k = sym c.peek.ensures ∙ c.if-peek-eq62.true in C.begin a.s.now (W.choose I.opened) a.from (search rules) (L.down a.s.now a.from 62 (W.entries I.opened) k tt (L.full a.s.now (a.from + 1) 0 c.found-then-peek-eq62.result (L.within a.s.now a.from 62 k tt) c.found-then-peek-eq62.ensures))
+returns-then-peek-eq62 c = let k = c.if-peek-eq62.true in L.down _ c.peek.ensures k (L.full (L.within _ _ c.peek.ensures k tt)) tt
+
+pub returns-in_err-c : goal.returns-in_err-c
+returns-in_err-c c = L.but _ c.peek.ensures c.if-peek-eq62.false (L.off _ _ _ c.in_err-c.ensures c.from_residual.ensures.1 tt)
 
 pub returns : goal.returns
-unfolding W.choose W.among
-returns c = let a = c.args in C.begin a.s.now (W.choose I.opened) a.from (search rules) (L.but a.s.now a.from 62 (W.entries I.opened) (λ q. c.if-peek-eq62.false (c.peek.ensures ∙ q)) (L.via a.s.now a.from (bytes ",") (L.others 62 (W.entries I.opened)) tt c.fit-c.ensures c.open_comma.ensures))
+returns c = L.but _ c.peek.ensures c.if-peek-eq62.false (L.via _ _ _ c.in_ok-c.ensures c.open_comma.ensures tt)

@@ -1,23 +1,22 @@
 -- `read_map` meets its contract: its word, a list, the end.
 use Rattle.strict.proofs.Chain as H
-use Rattle.strict.specs.Views as Y
-use Rattle.strict.proofs.Viewing as L
-use Rattle.strict.specs.Words.{choose, among}
-use Rattle.strict.specs.Lists.{row}
-use Rattle.lexis.specs.Text.{bytes}
-use mathlib.Core.Bool.{false}
-use Prim.Native.Nat.{ℕ}
-use mathlib.Core.Path.{◌∙◌}
-use native.Mathlib.Omega.{arith}
+use mathlib.Core.Path.{refl}
+use Rattle.strict.specs.Views.{map_part}
+use Rattle.strict.proofs.Listing as L
 use Rattle.strict.proofs.view.read_map.Goals as goal
 
+pub returns-in_err-k : goal.returns-in_err-k
+unfolding map_part
+returns-in_err-k c = H.stops _ c.in_err-k.ensures c.from_residual.ensures.1
+
+pub returns-in_err-l : goal.returns-in_err-l
+unfolding map_part
+returns-in_err-l c = H.goes _ c.in_ok-k.ensures (H.stops _ (L.blank _ c.requires.map_value c.in_err-l.ensures) c.from_residual-in_err-l.ensures.1)
+
+pub returns-in_err-m : goal.returns-in_err-m
+unfolding map_part
+returns-in_err-m c = H.goes _ c.in_ok-k.ensures (H.goes _ (L.blank _ c.requires.map_value c.in_ok-l.ensures) (H.halts _ c.in_err-m.ensures c.from_residual-in_err-m.ensures.1))
+
 pub returns : goal.returns
-unfolding choose among
-returns c = let a = c.args in let s = a.s.now in let k = c.read_two-k in let n = c.read_list32-l in let m = c.read_word-m in let l = row n.new.out n.result.len in let o = k.ensures.onward in let p = n.ensures.onward in let q = m.ensures.onward in
-    record {
-      same = L.map_is s a.from ∙ H.chain s (choose Y.maps) Y.map_from k.result.word a.from k.result.end k.ensures.same
-          ∙ H.chain s (Y.entries false) Y.map_tail l k.result.end n.result.end n.ensures.same
-          ∙ H.last s (choose (bytes "]>|")) (λ (j : ℕ). l) m.result.word n.result.end m.result.end m.ensures.same;
-      inside = m.ensures.inside;
-      onward = omega arith;
-    }
+unfolding map_part
+returns c = H.goes _ c.in_ok-k.ensures (H.goes _ (L.blank _ c.requires.map_value c.in_ok-l.ensures) (H.ends _ c.in_ok-m.ensures refl))

@@ -1,31 +1,30 @@
 -- `read_sight` meets its contract: a padding and the beginning of a tensor view, or nothing; then the tensor view.
 use Rattle.strict.proofs.Chain as H
-use Rattle.strict.specs.Inner as I
-use Rattle.strict.specs.Views as Y
-use Rattle.strict.proofs.Viewing as L
-use Rattle.strict.specs.Words.{choose}
-use Rattle.grammar.specs.Join.{mapped}
-use mathlib.Core.Bool.{true, false}
-use Prim.Native.Nat.{ℕ}
-use mathlib.Core.Path.{◌∙◌}
-use native.Mathlib.Omega.{arith}
-use borrow.Author.Rules.{rules}
+use Rattle.strict.proofs.Insides as G
+use mathlib.Core.Path.{refl}
+use Rattle.strict.specs.Views.{sight}
 use Rattle.strict.proofs.view.read_sight.Goals as goal
 
-pub returns-then-k-lt2 : goal.returns-then-k-lt2
-returns-then-k-lt2 c = let a = c.args in let s = a.s.now in let n = c.read_pad-p in let w = c.read_lead-l in let m = c.read_tensor-tensor in let o = n.ensures.onward in let p = w.ensures.onward in let q = m.ensures.onward in
-    record {
-      same = L.sight_pad s a.from a.k (search rules) ∙ H.chain s (choose Y.pads) Y.led n.result.word a.from n.result.end n.ensures.same
-          ∙ H.chain s (choose Y.leads) (λ (k : ℕ) x. mapped (Y.seen true n.result.word) (I.tensor x)) w.result.word n.result.end w.result.end w.ensures.same
-          ∙ H.last s I.tensor (Y.seen true n.result.word) (I.tensed m.new.shape m.new.strides m.result) w.result.end m.result.end m.ensures.same;
-      inside = m.ensures.inside;
-      onward = omega arith;
-    }
+pub returns-in_err-p : goal.returns-in_err-p
+unfolding sight
+returns-in_err-p c = H.same_as (G.yes _ _ c.if-led.true) (H.stops _ c.in_err-p.ensures c.from_residual.ensures.1)
+
+pub returns-in_err-l : goal.returns-in_err-l
+unfolding sight
+returns-in_err-l c = H.same_as (G.yes _ _ c.if-led.true) (H.goes _ c.in_ok-p.ensures (H.stops _ c.in_err-l.ensures c.from_residual-in_err-l.ensures.1))
+
+pub returns-in_err-t : goal.returns-in_err-t
+unfolding sight
+returns-in_err-t c = H.same_as (G.yes _ _ c.if-led.true) (H.goes _ c.in_ok-p.ensures (H.goes _ c.in_ok-l.ensures (H.halts _ c.in_err-t.ensures c.from_residual-in_err-t.ensures.1)))
+
+pub returns-then-led : goal.returns-then-led
+unfolding sight
+returns-then-led c = H.same_as (G.yes _ _ c.if-led.true) (H.goes _ c.in_ok-p.ensures (H.goes _ c.in_ok-l.ensures (H.ends _ c.in_ok-t.ensures refl)))
+
+pub returns-in_err-t-2 : goal.returns-in_err-t-2
+unfolding sight
+returns-in_err-t-2 c = H.same_as (G.no _ _ c.if-led.false) (H.halts _ c.in_err-t-2.ensures c.from_residual-in_err-t-2.ensures.1)
 
 pub returns : goal.returns
-returns c = let a = c.args in let s = a.s.now in let m = c.read_tensor-tensor-2 in let q = m.ensures.onward in
-    record {
-      same = L.sight_bare s a.from a.k (search rules) ∙ H.last s I.tensor (Y.seen false 0) (I.tensed m.new.shape m.new.strides m.result) a.from m.result.end m.ensures.same;
-      inside = m.ensures.inside;
-      onward = omega arith;
-    }
+unfolding sight
+returns c = H.same_as (G.no _ _ c.if-led.false) (H.ends _ c.in_ok-t-2.ensures refl)

@@ -1,26 +1,29 @@
 -- `read_view` meets its contract: one part after another, up to the end.
-use Rattle.strict.proofs.Wholes as L
-use Rattle.strict.specs.Cursor as C
-use Rattle.strict.specs.Views as Y
-use Rattle.strict.specs.Whole as M
-use Rattle.strict.specs.Lists.{row}
-use lib.Dec.{ltb}
-use mathlib.Core.Bool.{not, ◌&&◌}
+use Rattle.strict.proofs.Chain as H
+use borrow.Author.Rules.{rules}
+use mathlib.Core.Path.{sym}
 use mir.Syntax.{w32}
 use mir.Val.{to_z, of_z}
-use mathlib.Core.Path.{◌≡◌, sym, ◌∙◌}
-use native.Mathlib.Omega.{arith}
-use borrow.Author.Rules.{rules}
+use mathlib.Core.Path.{◌≡◌}
+use mathlib.Core.Bool.{not}
+use lib.ListN.{drop}
+use Rattle.strict.specs.Whole.{view}
 use Rattle.strict.proofs.whole.read_view.Goals as goal
 
+pub returns-in_err-t : goal.returns-in_err-t
+returns-in_err-t c = let a = c.args in H.same_as (λ i. view a.kind (not (sym c.is_strided-bare.ensures i)) (sym c.is_gather-sparse.ensures i) (drop a.at a.s.now)) (H.stops _ c.in_err-t.ensures c.from_residual.ensures.1)
+
+pub returns-in_err-w : goal.returns-in_err-w
+returns-in_err-w c = let a = c.args in H.same_as (λ i. view a.kind (not (sym c.is_strided-bare.ensures i)) (sym c.is_gather-sparse.ensures i) (drop a.at a.s.now)) (H.goes _ c.in_ok-t.ensures (H.stops _ c.in_err-w.ensures c.from_residual-in_err-w.ensures.1))
+
+pub returns-in_err-m : goal.returns-in_err-m
+returns-in_err-m c = let a = c.args in H.same_as (λ i. view a.kind (not (sym c.is_strided-bare.ensures i)) (sym c.is_gather-sparse.ensures i) (drop a.at a.s.now)) (H.goes _ c.in_ok-t.ensures (H.goes _ c.in_ok-w.ensures (H.stops _ c.in_err-m.ensures c.from_residual-in_err-m.ensures.1)))
+
+pub returns-in_err-v : goal.returns-in_err-v
+returns-in_err-v c = let a = c.args in H.same_as (λ i. view a.kind (not (sym c.is_strided-bare.ensures i)) (sym c.is_gather-sparse.ensures i) (drop a.at a.s.now)) (H.goes _ c.in_ok-t.ensures (H.goes _ c.in_ok-w.ensures (H.goes _ c.in_ok-m.ensures (H.stops _ c.in_err-v.ensures c.from_residual-in_err-v.ensures.1))))
+
+pub returns-in_err-e : goal.returns-in_err-e
+returns-in_err-e c = let a = c.args in H.same_as (λ i. view a.kind (not (sym c.is_strided-bare.ensures i)) (sym c.is_gather-sparse.ensures i) (drop a.at a.s.now)) (H.goes _ c.in_ok-t.ensures (H.goes _ c.in_ok-w.ensures (H.goes _ c.in_ok-m.ensures (H.goes _ c.in_ok-v.ensures (H.halts _ c.in_err-e.ensures c.from_residual-in_err-e.ensures.1)))))
+
 pub returns : goal.returns
-returns c = let z : to_z w32 (of_z w32 c.read_last-e.result.sparse) ≡ c.read_last-e.result.sparse = search rules in let a = c.args in let s = a.s.now in let t = c.read_list32-t in let w = c.read_walk-w in let m = c.read_mid-m in let v = c.read_sight-sight in let e = c.read_last-e in
-    let o1 = t.ensures.onward in let o2 = w.ensures.onward in let o3 = m.ensures.onward in let o4 = v.ensures.onward in let o5 = e.ensures.onward in let y = e.result.sparse in
-    let kd = M.kind_by (ltb a.k 32) (ltb a.k 34) in let l = row t.new.out t.result.len in let g = row w.new.walk w.result.len in let x = Y.sighted v.new.shape v.new.strides v.result in let n = row e.new.map e.result.map in
-    record {
-      same = L.view_at s kd (ltb a.k 34) (ltb a.k 34 && not (ltb a.k 32)) l t.result.end g w.result.end m.result.word m.result.end x v.result.tensor.end (Y.closed n y) e.result.end
-          a.from t.ensures.same w.ensures.same m.ensures.same v.ensures.same e.ensures.same
-          ∙ (λ i. C.valued s (M.view_of (sym c.view_kind-kind.ensures i) (Y.viewed l x n g (sym z i))) e.result.end);
-      inside = e.ensures.inside;
-      onward = omega arith;
-    }
+returns c = let a = c.args in H.same_as (λ i. view a.kind (not (sym c.is_strided-bare.ensures i)) (sym c.is_gather-sparse.ensures i) (drop a.at a.s.now)) (H.goes _ c.in_ok-t.ensures (H.goes _ c.in_ok-w.ensures (H.goes _ c.in_ok-m.ensures (H.goes _ c.in_ok-v.ensures (H.ends _ c.in_ok-e.ensures (let z : to_z w32 (of_z w32 c.in_ok-e.e.value.sparse) ≡ c.in_ok-e.e.value.sparse = search rules in rw z))))))

@@ -8,7 +8,7 @@ use mathlib.Core.Path.{◌≡◌}
 use Rattle.strict.proofs.words.fit.Given as goal
 
 abbrev pub invariant-loop-j : goal.invariant-loop-j
-invariant-loop-j l = (l.i ≤ length l.s) × (l.at ≤ l.i) × (l.j ≤ length l.w) × (W.among ((l.w ↝ l.k) ∷ []) (drop l.at l.s) ≡ W.among ((drop l.j l.w ↝ l.k) ∷ []) (drop l.i l.s))
+invariant-loop-j g l = (l.i ≤ length l.s) × (l.at ≤ l.i) × (l.j ≤ length l.w) × (W.among ((l.w ↝ l.value) ∷ []) (drop l.at l.s) ≡ W.among ((drop l.j l.w ↝ l.value) ∷ []) (drop l.i l.s))
 
 abbrev pub decreases-loop-j : goal.decreases-loop-j
-decreases-loop-j l = length l.w - l.j
+decreases-loop-j g l = length l.w - l.j

@@ -1,5 +1,6 @@
--- The pieces of the strict reader, as the code reads them: numerals, dimensions, items of lists. Each by its first byte.
-use Prim.Native.Nat.{ℕ, zero, suc, ◌+◌, ◌-◌, ◌^◌, ◌<◌}
+-- The laws of the kinds of lists, which their impls name: each is told by its items, and its fuel is enough. Its pieces, as the code reads
+-- them: numerals, dimensions, items, each by its first byte.
+use Prim.Native.Nat.{ℕ, zero, suc, ◌+◌, ◌-◌, ◌^◌, ◌≤◌, ◌<◌}
 use mathlib.Core.Bool.{Bool, true, false, cond, ◌||◌}
 use mathlib.Core.List.{List, [], ◌∷◌, ◌++◌}
 use mathlib.Core.Path.{◌≡◌, refl, sym, subst, ap, ◌∙◌}
@@ -8,7 +9,7 @@ use lib.IntN.{ℤ, pos, negsuc}
 use lib.ListN.{drop, length}
 use Rattle.lexis.specs.Text.{bytes}
 use Rattle.meaning.specs.Decimal.{decimal, in32, in64, dim, size}
-use Rattle.grammar.specs.Piece.{Answer, got, stuck, member, Piece}
+use Rattle.grammar.specs.Piece.{Answer, got, stuck, member, Piece, Good}
 use Rattle.grammar.specs.Join.{mapped, after}
 use Rattle.grammar.specs.Table.{pick, ◌↝◌}
 use Rattle.grammar.specs.Number as N
@@ -17,10 +18,43 @@ use Rattle.grammar.specs.Number.{digits_after}
 use Rattle.grammar.specs.Several.{same, figs?}
 use Rattle.grammar.proofs.Several.{num32, dim64, item, x32, dimx}
 use Rattle.strict.specs.Cursor as C
-use Rattle.strict.specs.Rows.{more, rows, commas32, xs32, parts32, commas64, dims64, dim_x}
-use Rattle.strict.specs.Words.{choose}
-use Rattle.strict.proofs.Rows.{turn, less}
-use Rattle.strict.proofs.Picking.{choose_label}
+use Rattle.strict.specs.Rows.{listed, Parts, behind, rows, commas32, xs32, commas64, dims64, dim_x}
+use Rattle.strict.specs.Words.{among}
+use native.Mathlib.Omega.{arith}
+use native.Mathlib.Nat.{not-suc-le-zero}
+use Rattle.grammar.specs.Until.{shorter}
+use Rattle.strict.specs.Rows.{more, run}
+
+-- ── the equation of a list ──
+module _ {F : List ℕ} {E : ℤ → List ℕ} (P : Piece false F ℤ E) where
+  -- an item is not empty
+  pub less : (t r : List ℕ) (a : ℤ) → P.read t ≡ got a r → length r < length t
+  less t r a e = shorter P t r a (subst (Good P.In P.read t) e (P.good t))
+
+  abbrev pub going : ℕ → Answer ℤ → Answer (List ℤ)
+  going k p = after (λ z r. mapped (more z) (run P k r)) p
+
+  abbrev onto : Answer ℤ → Answer (List ℤ)
+  onto p = after (λ z r. mapped (more z) (rows P r)) p
+
+  step : (k m : ℕ) (t : List ℕ) (p : Answer ℤ) → Good P.In P.read t p → ((r : List ℕ) → length r < length t → run P k r ≡ run P m r) → going k p ≡ going m p
+  step k m t (got a r) g h = ap (mapped (more a)) (h r (shorter P t r a g))
+  step k m t (stuck r) g h = refl
+
+  enough : (k m : ℕ) (t : List ℕ) → length t < k → length t < m → run P k t ≡ run P m t
+  enough zero m t h g = absurd (not-suc-le-zero h)
+  enough (suc k) zero t h g = absurd (not-suc-le-zero g)
+  enough (suc k) (suc m) [] h g = refl
+  enough (suc k) (suc m) (c ∷ t) h g = ap (λ (z : Answer (List ℤ)). cond (member c F) z (got [] (c ∷ t)))
+      (step k m (c ∷ t) (P.read (c ∷ t)) (P.good (c ∷ t)) (λ r q. enough k m r (omega arith) (omega arith)))
+
+  last_step : (k : ℕ) (t : List ℕ) (p : Answer ℤ) → Good P.In P.read t p → length t ≤ k → going k p ≡ onto p
+  last_step k t (got a r) g h = let q = shorter P t r a g in ap (mapped (more a)) (enough k (suc (length r)) r (omega arith) (omega arith))
+  last_step k t (stuck r) g h = refl
+
+  -- the equation
+  pub turn : (c : ℕ) (t : List ℕ) → rows P (c ∷ t) ≡ cond (member c F) (onto (P.read (c ∷ t))) (got [] (c ∷ t))
+  turn c t = ap (λ (z : Answer (List ℤ)). cond (member c F) z (got [] (c ∷ t))) (last_step (suc (length t)) (c ∷ t) (P.read (c ∷ t)) (P.good (c ∷ t)) (omega arith))
 
 pick_done : {A : Type 0} (a : A) (t : List ℕ) → pick t (([] ↝ a) ∷ []) ≡ got a t
 pick_done a [] = refl
@@ -89,54 +123,43 @@ space_is (c ∷ t) = by (eqb 32 c)
     by true = pick_done tt t
     by false = refl
 
--- what the items read, and the list from there
-abbrev pub goes : (List ℕ → Answer (List ℤ)) → Answer ℤ → Answer (List ℤ)
-goes f p = after (λ z r. mapped (more z) (f r)) p
-
--- a list of items: it ends with the text, or before a byte that begins none, or goes on with an item, which is not empty
-pub record Parts (f : List ℕ → Answer (List ℤ)) (F : List ℕ) (g : List ℕ → Answer ℤ) : Type 0 where
-  pub nil : f [] ≡ got [] []
-  pub off : (c : ℕ) (t : List ℕ) → member c F ≡ false → f (c ∷ t) ≡ got [] (c ∷ t)
-  pub on : (c : ℕ) (t : List ℕ) → member c F ≡ true → f (c ∷ t) ≡ goes f (g (c ∷ t))
-  pub shorter : (c : ℕ) (t r : List ℕ) (z : ℤ) → member c F ≡ true → g (c ∷ t) ≡ got z r → length r < length (c ∷ t)
-
 module _ {F : List ℕ} {E : ℤ → List ℕ} (P : Piece false F ℤ E) where
   abbrev goes_if : ℕ → List ℕ → Bool → Answer (List ℤ)
-  goes_if c t k = cond k (goes (rows P) (P.read (c ∷ t))) (got [] (c ∷ t))
+  goes_if c t k = cond k (listed (rows P) (P.read (c ∷ t))) (got [] (c ∷ t))
 
   of : (g : List ℕ → Answer ℤ) → ((c : ℕ) (t : List ℕ) → member c F ≡ true → P.read (c ∷ t) ≡ g (c ∷ t)) → Parts (rows P) F g
   of g r = record {
     nil = refl;
     off = λ c t h. turn P c t ∙ ap (goes_if c t) h;
-    on = λ c t h. turn P c t ∙ ap (goes_if c t) h ∙ ap (goes (rows P)) (r c t h);
+    on = λ c t h. turn P c t ∙ ap (goes_if c t) h ∙ ap (listed (rows P)) (r c t h);
     shorter = λ c t u z h e. less P (c ∷ t) u z (r c t h ∙ e);
   }
 
 -- behind a separator
-module _ (d : ℕ) (f : List ℕ → Answer ℤ) (x : Bool) (g : List ℕ → Answer ℤ) where
-  behind : ((t : List ℕ) → f (d ∷ t) ≡ g (C.gap x t)) → (c : ℕ) (t : List ℕ) → member c (d ∷ []) ≡ true → f (c ∷ t) ≡ g (C.gap x (drop 1 (c ∷ t)))
-  behind h c t = by (eqb c d) (eqb→eq c d)
+module _ (d : ℕ) (f g : List ℕ → Answer ℤ) where
+  by_sep : ((t : List ℕ) → f (d ∷ t) ≡ g (d ∷ t)) → (c : ℕ) (t : List ℕ) → member c (d ∷ []) ≡ true → f (c ∷ t) ≡ g (c ∷ t)
+  by_sep h c t = by (eqb c d) (eqb→eq c d)
     where
-      by : (k : Bool) → (T k → c ≡ d) → k || false ≡ true → f (c ∷ t) ≡ g (C.gap x t)
-      by true e m = ap (λ (z : ℕ). f (z ∷ t)) (e tt) ∙ h t
+      by : (k : Bool) → (T k → c ≡ d) → k || false ≡ true → f (c ∷ t) ≡ g (c ∷ t)
+      by true e m = subst (λ (z : ℕ). f (z ∷ t) ≡ g (z ∷ t)) (sym (e tt)) (h t)
       by false e m = let z : T false = subst T (sym m) tt in absurd z
 
-pub parts32_are : (x : Bool) → Parts (parts32 x) (cond x 120 44 ∷ []) (λ t. C.numeral (2 ^ 31) (2 ^ 31 + 1) (C.gap x (drop 1 t)))
-unfolding commas32 xs32
-parts32_are false = of item32 _ (behind 44 item32.read false (C.numeral (2 ^ 31) (2 ^ 31 + 1)) (λ t. ap (after (λ (u : Unit {0}). num32.read)) (space_is t) ∙ num_is (C.skip t)))
-parts32_are true = of x32 _ (behind 120 x32.read true (C.numeral (2 ^ 31) (2 ^ 31 + 1)) (λ t. ap (after (λ (u : Unit {0}). num32.read)) (pick_done tt t) ∙ num_is t))
+pub commas32_are : Parts commas32 (44 ∷ []) (λ t. C.numeral (2 ^ 31) (2 ^ 31 + 1) (behind t))
+unfolding commas32
+commas32_are = of item32 _ (by_sep 44 item32.read (λ t. C.numeral (2 ^ 31) (2 ^ 31 + 1) (behind t)) (λ t. ap (after (λ (u : Unit {0}). num32.read)) (space_is t) ∙ num_is (C.skip t)))
 
-pub commas64_are : Parts commas64 (44 ∷ []) (λ t. C.dimension (C.gap false (drop 1 t)))
+pub xs32_are : Parts xs32 (120 ∷ []) (λ t. C.numeral (2 ^ 31) (2 ^ 31 + 1) (drop 1 t))
+unfolding xs32
+xs32_are = of x32 _ (by_sep 120 x32.read (λ t. C.numeral (2 ^ 31) (2 ^ 31 + 1) (drop 1 t)) (λ t. ap (after (λ (u : Unit {0}). num32.read)) (pick_done tt t) ∙ num_is t))
+
+pub commas64_are : Parts commas64 (44 ∷ []) (λ t. C.dimension (behind t))
 unfolding commas64
-commas64_are = of item64 _ (behind 44 item64.read false C.dimension (λ t. ap (after (λ (u : Unit {0}). dim64.read)) (space_is t) ∙ dim_is (C.skip t)))
+commas64_are = of item64 _ (by_sep 44 item64.read (λ t. C.dimension (behind t)) (λ t. ap (after (λ (u : Unit {0}). dim64.read)) (space_is t) ∙ dim_is (C.skip t)))
 
 -- ── a dimension and an `x` ──
 dimx_is : (t : List ℕ) → dimx.read t ≡ dim_x t
-dimx_is t = ap (after (λ (z : ℤ) r. pick r ((bytes "x" ↝ z) ∷ []))) (dim_is t) ∙ by (C.dimension t)
-  where
-    by : (p : Answer ℤ) → after (λ (z : ℤ) r. pick r ((bytes "x" ↝ z) ∷ [])) p ≡ after (λ (z : ℤ) r. mapped (λ (k : ℕ). z) (choose (bytes "x|") r)) p
-    by (got z r) = choose_label (λ (k : ℕ). z) (bytes "x|") r
-    by (stuck r) = refl
+unfolding among
+dimx_is t = ap (after (λ (z : ℤ) r. pick r ((bytes "x" ↝ z) ∷ []))) (dim_is t)
 
 pub dims64_are : Parts dims64 figs? dim_x
 unfolding dims64
