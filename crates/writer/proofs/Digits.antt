@@ -7,11 +7,9 @@ use mathlib.Core.List.{[], ◌∷◌, ◌++◌}
 use mathlib.Core.Path.{◌≡◌, refl, ap, ◌∙◌}
 use borrow.Author.Tests.{lt-ltb, le-ltb, ltb-true, ltb-false}
 use lib.Dec.{T, ltb, nltb→le}
-use lib.ListN.{length, set, length-append}
+use lib.ListN.{length, length-append}
 use Rattle.lexis.specs.Text.{Text}
 use Rattle.meaning.specs.Decimal.{digits}
-use Rattle.writer.specs.Room.{Put}
-use Rattle.writer.proofs.Rooms.{◌then◌, byte}
 
 small : (n f : ℕ) → n ≤ suc f → 10 ≤ n → n / 10 ≤ f
 small n f p h = let e = div-add-mod n 10 in omega arith
@@ -63,15 +61,3 @@ short (suc k) n h = go (ltb n 10) (ltb-true n 10) (ltb-false n 10) (short k (n /
         let d = pow-suc 10 (suc k) in
         let l : n / 10 < 10 ^ suc k = omega arith in
         rw (more n (q refl), length-append) (omega (arith, r l))
-
-pub put_one : {s : Text} {a n v : ℕ} → n < 10 → v ≡ 48 + n → Put s a (digits n n []) (set s a v) (a + 1)
-put_one {s} {a} {n} {v} h e = rw (one n h, ← e) (byte s a v)
-
-pub put_more : {s t : Text} {a b n v : ℕ} → 10 ≤ n → Put s a (digits (n / 10) (n / 10) []) t b → v ≡ 48 + n % 10 → Put s a (digits n n []) (set t b v) (b + 1)
-put_more {s} {t} {a} {b} {n} {v} h p e = rw (more n h, ← e) (p then byte t b v)
-
-pub room_one : (a n m : ℕ) → n < 10 → a + length (digits n n []) ≤ m → a + 1 ≤ m
-room_one a n m h k = rw (one n h) at k
-
-pub room_more : (a n m : ℕ) → 10 ≤ n → a + length (digits n n []) ≤ m → a + length (digits (n / 10) (n / 10) []) + 1 ≤ m
-room_more a n m h k = let e = length-append (digits (n / 10) (n / 10) []) ((48 + n % 10) ∷ []) in omega (arith, rw (more n h) at k)

@@ -21,7 +21,7 @@ use Rattle.meaning.specs.Strict as F
 use Rattle.meaning.specs.Strict.{◌⊕◌, Tensor, Form, spell}
 use Rattle.meaning.specs.Written.{◌>>=◌, unless, listed, dimension_of, first, form_as, written, tensor_of, view_of, tensor_in, shape_in, strides_in, tile_in}
 use Rattle.meaning.specs.Written.{map_in, traversal_in}
-use Rattle.writer.specs.Flat.{behind, entry, clause32, clause64, shaped, body_text, padding_text, lead_text, travel_text, map_text, sparse_text, body_in, inner_in}
+use Rattle.writer.specs.Flat.{behind, entry, clause, some_clause, shaped, body_text, padding_text, lead_text, travel_text, map_text, sparse_text, body_in, inner_in}
 use Rattle.writer.specs.Flat.{element_text, text_as, text, some_in, strides_fine, shown_as, shown}
 
 -- ── lists ──
@@ -30,7 +30,7 @@ dims_is [] = refl
 dims_is (z ∷ zs) = ap (λ (l : Text). 120 ∷ l) (append_assoc (entry z) (behind (bytes "x") entry zs) (bytes "x") ∙ ap (λ (l : Text). entry z ++ l) (dims_is zs))
 
 shaped_is : (zs : List ℤ) → F.dims (map dimension_of zs) ≡ shaped zs
-unfolding clause64
+unfolding clause some_clause
 shaped_is [] = refl
 shaped_is (z ∷ zs) = sym (append_assoc (entry z) (behind (bytes "x") entry zs) (bytes "x") ∙ ap (λ (l : Text). entry z ++ l) (dims_is zs))
 
@@ -60,7 +60,7 @@ abbrev fine : List ℤ → List ℤ → Bool
 fine ds zs = filled zs || not (filled ds)
 
 tensor_tells : (e : Scalar) (m : Bool) (ds zs : List ℤ) → Tells (tensor_of e m ds zs) (fine ds zs) (body_text e m ds zs)
-unfolding Tells clause64
+unfolding Tells clause some_clause
 tensor_tells e m [] [] = refl
 tensor_tells e m (d ∷ ds) [] = tt
 tensor_tells e m [] (z ∷ zs) = simp (append_assoc, rest_is dim dimension_of zs)
@@ -86,7 +86,7 @@ module _ (p : Padding) where
   partition_law : (ts : List ℤ) (o : Option Tensor) (b : Bool) (x : Text) (ms : List ℤ) → Tells o b x →
       spelt (view_of p ts o >>= λ v. each (F.partition v) (listed (λ z. z) ms))
       ≡ either (filled ts && b && filled ms) (bytes "!cuda_tile.partition_view<" ⊕ lead_text ts ⊕ inner x ⊕ map_text ms)
-  unfolding Tells clause32 sparse_text
+  unfolding Tells clause sparse_text
   partition_law [] o b x ms k = refl
   partition_law (t ∷ ts) none true x ms k = absurd k
   partition_law (t ∷ ts) none false x ms k = refl
@@ -97,7 +97,7 @@ module _ (p : Padding) where
   gather_law : (ts : List ℤ) (o : Option Tensor) (b : Bool) (x : Text) (z : ℤ) → Tells o b x →
       spelt (each (λ v. F.gather v z) (view_of p ts o))
       ≡ either (filled ts && b) (bytes "!cuda_tile.gather_scatter_view<" ⊕ lead_text ts ⊕ inner x ⊕ sparse_text z)
-  unfolding Tells clause32 sparse_text
+  unfolding Tells clause sparse_text
   gather_law [] o b x z k = refl
   gather_law (t ∷ ts) none true x z k = absurd k
   gather_law (t ∷ ts) none false x z k = refl
@@ -107,7 +107,7 @@ module _ (p : Padding) where
   strided_law : (ts : List ℤ) (o : Option Tensor) (b : Bool) (x : Text) (ws ms : List ℤ) → Tells o b x →
       spelt (view_of p ts o >>= λ v. listed (λ z. z) ws >>= λ t. each (F.strided v t true) (listed (λ z. z) ms))
       ≡ either (filled ts && b && filled ws && filled ms) (bytes "!cuda_tile.strided_view<" ⊕ lead_text ts ⊕ travel_text ws ⊕ inner x ⊕ map_text ms)
-  unfolding Tells clause32 sparse_text
+  unfolding Tells clause sparse_text
   strided_law [] o b x ws ms k = refl
   strided_law (t ∷ ts) none true x ws ms k = absurd k
   strided_law (t ∷ ts) none false x ws ms k = refl

@@ -20,7 +20,7 @@ use Rattle.meaning.specs.declared.Padding.TheVariants.{Absent, Zero, NegZero, Na
 use Rattle.meaning.specs.Decimal.{decimal, dim, dynamic, known}
 use Rattle.meaning.specs.Strict.{mark}
 use Rattle.meaning.specs.Written.{unknown, shape_in, tile_in, map_in, traversal_in}
-use Rattle.writer.specs.Flat.{word_of, padding_text, entry, behind, parted, clause64, clause32, shaped, body_in, inner_in, lead_text, travel_text, map_text}
+use Rattle.writer.specs.Flat.{word_of, padding_text, entry, behind, parted, clause, some_clause, shaped, body_in, inner_in, lead_text, travel_text, map_text}
 use Rattle.writer.specs.Flat.{sparse_text, pointer_text, element_text, text, text_as, Small}
 use Rattle.writer.proofs.Digits.{short}
 
@@ -95,17 +95,17 @@ module _ (f : ℤ → Text) (b k : ℕ) (s : (z : ℤ) → mag z < 2 ^ b → len
       omega (arith, s z (h 0), mul-le-mul_left (k + 1) p)
 
 module _ (head : Text) (v : ℕ) (tail : Text) (n cap : ℕ) (l : List ℤ) (p : n ≤ cap) (q : 1 ≤ cap) where
-  clause64_short : Below 63 l → length (clause64 head v (take n l) tail) + 1 ≤ 21 * cap + length head + length tail
-  unfolding clause64
-  clause64_short h = by (take n l) (parted_short entry 63 20 entry_short v n cap l p q h)
+  some_short : Below 63 l → length (some_clause entry head v (take n l) tail) + 1 ≤ 21 * cap + length head + length tail
+  unfolding clause some_clause
+  some_short h = by (take n l) (parted_short entry 63 20 entry_short v n cap l p q h)
     where
-      by : (k : List ℤ) → length (parted (v ∷ []) entry k) + 1 ≤ 21 * cap → length (clause64 head v k tail) + 1 ≤ 21 * cap + length head + length tail
+      by : (k : List ℤ) → length (parted (v ∷ []) entry k) + 1 ≤ 21 * cap → length (some_clause entry head v k tail) + 1 ≤ 21 * cap + length head + length tail
       by [] e = omega arith
       by (z ∷ k) e = simp length-append (omega (arith, length-append (entry z) (behind (v ∷ []) entry k)))
 
-  clause32_short : Below 31 l → length (clause32 head v (take n l) tail) + 1 ≤ 12 * cap + length head + length tail
-  unfolding clause32
-  clause32_short h = simp length-append (omega (arith, parted_short decimal 31 11 small_short v n cap l p q h))
+  clause_short : Below 31 l → length (clause decimal head v (take n l) tail) + 1 ≤ 12 * cap + length head + length tail
+  unfolding clause
+  clause_short h = simp length-append (omega (arith, parted_short decimal 31 11 small_short v n cap l p q h))
 
 -- ── the record ──
 pub record Ranged (r : Record) : Type 0 where
@@ -118,14 +118,14 @@ pub record Ranged (r : Record) : Type 0 where
 
 module _ (cap : ℕ) (one : 1 ≤ cap) (r : Record) (s : Small cap r) (g : Ranged r) where
   shape_short : length (shaped (shape_in r)) ≤ 21 * cap
-  shape_short = omega (arith, clause64_short [] 120 (bytes "x") r.shape_len cap r.shape s.shape one g.shape)
+  shape_short = omega (arith, some_short [] 120 (bytes "x") r.shape_len cap r.shape s.shape one g.shape)
 
   pub body_short : length (body_in r) ≤ 42 * cap + 47
   unfolding body_in
   body_short = simp length-append (omega (
     arith,
     shape_short,
-    clause64_short (bytes ", strides=[") 44 (bytes "]") r.strides_len cap r.strides s.strides one g.strides,
+    some_short (bytes ", strides=[") 44 (bytes "]") r.strides_len cap r.strides s.strides one g.strides,
     word_short r.element,
     mark_short r.attribute,
   ))
@@ -135,13 +135,13 @@ module _ (cap : ℕ) (one : 1 ≤ cap) (r : Record) (s : Small cap r) (g : Range
   inner_short = simp length-append (omega (arith, body_short, pad_short r.padding))
 
   lead_short : length (lead_text (tile_in r)) ≤ 12 * cap + 8
-  lead_short = omega (arith, clause32_short (bytes "tile=(") 120 (bytes "), ") r.tile_len cap r.tile s.tile one g.tile)
+  lead_short = omega (arith, clause_short (bytes "tile=(") 120 (bytes "), ") r.tile_len cap r.tile s.tile one g.tile)
 
   travel_short : length (travel_text (traversal_in r)) ≤ 12 * cap + 21
-  travel_short = omega (arith, clause32_short (bytes "traversal_strides=[") 44 (bytes "], ") r.traversal_len cap r.traversal s.traversal one g.traversal)
+  travel_short = omega (arith, clause_short (bytes "traversal_strides=[") 44 (bytes "], ") r.traversal_len cap r.traversal s.traversal one g.traversal)
 
   map_short : length (map_text (map_in r)) ≤ 12 * cap + 10
-  map_short = omega (arith, clause32_short (bytes "dim_map=[") 44 (bytes "]>") r.map_len cap r.map s.map one g.map)
+  map_short = omega (arith, clause_short (bytes "dim_map=[") 44 (bytes "]>") r.map_len cap r.map s.map one g.map)
 
   sparse_short : length (sparse_text r.sparse) ≤ 23
   unfolding sparse_text
