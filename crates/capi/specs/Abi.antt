@@ -1,6 +1,5 @@
 -- The strict reader's and the writer's answers in numbers (docs/ABI.md).
-use Rattle.std.proofs.Math.Option.{Option, none, some}
-use Rattle.std.specs.Prelude.{◌≡◌}
+use Rattle.std.specs.Prelude.{◌≡◌, Option, Some, None}
 use Rattle.lexis.specs.Text.{Text}
 use Rattle.meaning.specs.Refusals.{number}
 use Rattle.meaning.specs.declared.Reading.{Reading}
@@ -38,8 +37,8 @@ outcome_numbers o = outcome (answer_numbers o.answer) o.room
 
 -- numbers that are no record's are refused as not normal
 abbrev pub write_given : Option Record → Text → W.Outcome
-write_given none room = W.refused NotNormal room
-write_given (some r) room = writing 8 r room
+write_given None room = W.refused NotNormal room
+write_given (Some r) room = writing 8 r room
 
 unfoldable pub write_numbers : TypetextRecord → Text → Outcome
 write_numbers n room = outcome_numbers (write_given (of_numbers n) room)
