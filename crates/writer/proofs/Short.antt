@@ -56,12 +56,12 @@ mark_short false = lit≤ tt
 
 -- ── numbers ──
 pub small_short : (z : ℤ) → mag z < 2 ^ 31 → length (decimal z) ≤ 11
-small_short (pos n) h = omega (arith, short 9 n (omega arith))
-small_short (negsuc n) h = omega (arith, short 9 (suc n) (omega arith))
+small_short (pos n) h = omega (arith, short 9 n [] (omega arith))
+small_short (negsuc n) h = omega (arith, short 9 (suc n) [] (omega arith))
 
 pub number_short : (z : ℤ) → mag z < 2 ^ 63 → length (decimal z) ≤ 20
-number_short (pos n) h = omega (arith, short 18 n (omega arith))
-number_short (negsuc n) h = omega (arith, short 18 (suc n) (omega arith))
+number_short (pos n) h = omega (arith, short 18 n [] (omega arith))
+number_short (negsuc n) h = omega (arith, short 18 (suc n) [] (omega arith))
 
 pub entry_short : (z : ℤ) → mag z < 2 ^ 63 → length (entry z) ≤ 20
 entry_short z h = go (unknown z)

@@ -1,6 +1,7 @@
 // The call: its refusals, and the text laid at the front of the room.
-ghost use Rattle.std.specs.Prelude.{◌≡◌};
-ghost use Rattle.meaning.specs.Written.{outcome, writing};
+ghost use Rattle.std.specs.Prelude.{◌≡◌, ◌≤◌, length};
+ghost use Rattle.meaning.specs.Written.{outcome, laid_in, writing};
+ghost use Rattle.writer.specs.Flat.{text};
 
 use super::fit::Fit;
 use super::has_text::has_text;
@@ -14,18 +15,13 @@ fn refused(refusal: Refusal) -> Written
     Written { refusal, len: 0 }
 }
 
-// The text of `r` at the front of the room, or a refusal and the room as it was.
-pub fn write(r: Record, room: &mut [u8]) -> Written
-    ensures { outcome result room.new ≡ writing 8 r room.old }
+// The text of a record that has one.
+fn laid(r: Fit, room: &mut [u8]) -> Written
+    requires within { length (text r.r.now) ≤ 773 }
+    ensures { outcome result room.new ≡ laid_in room.old (text r.entry.r.now) }
 {
-    if !is_normal(r) {
-        return refused(Refusal::NotNormal);
-    }
-    if !has_text(&r) {
-        return refused(Refusal::NoText);
-    }
     let mut draft = Draft::new();
-    draft.put_text(Fit { r: &r });
+    draft.put_text(r);
     let text = draft.bytes();
     let len = text.len();
     if room.len() < len {
@@ -36,4 +32,17 @@ pub fn write(r: Record, room: &mut [u8]) -> Written
         refusal: Refusal::Accepted,
         len,
     }
+}
+
+// The text of `r` at the front of the room, or a refusal and the room as it was.
+pub fn write(r: Record, room: &mut [u8]) -> Written
+    ensures { outcome result room.new ≡ writing 8 r room.old }
+{
+    if !is_normal(r) {
+        return refused(Refusal::NotNormal);
+    }
+    if !has_text(&r) {
+        return refused(Refusal::NoText);
+    }
+    laid(Fit { r: &r }, room)
 }

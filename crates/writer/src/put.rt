@@ -55,17 +55,24 @@ impl Draft {
         self.len = end;
     }
 
-    // The digits of `n`, without a leading zero.
-    #[tactic(auto, using(crate::proofs::Digits::one))]
+    // The digits of `n`, without a leading zero: from the last on, at the end of a room for the longest.
     fn put_digits(&mut self, n: u64)
         requires { length self.old + length (digits n n []) ≤ LONGEST }
         ensures { self.new ≡ self.old ++ digits n n [] }
     {
         if n < 10 {
-            return self.put_byte(b'0' + n as u8);
+            return self.put_byte(b'0' + n as u8); // as most numbers are
         }
-        self.put_digits(n / 10);
-        self.put_byte(b'0' + (n % 10) as u8);
+        let mut text = [0; 20];
+        let mut first = 19;
+        let mut rest = n;
+        while rest >= 10 {
+            text[first] = b'0' + (rest % 10) as u8;
+            first -= 1;
+            rest /= 10;
+        }
+        text[first] = b'0' + rest as u8;
+        self.put_bytes(&text[first..]);
     }
 
     // `z` in decimal, with `-` in front if it is negative.
