@@ -5,7 +5,7 @@ use native.Mathlib.Omega.{arith}
 use mathlib.Core.Bool.{Bool, true, false, ◌&&◌, ◌||◌, not}
 use mathlib.Core.List.{List, [], ◌∷◌, ◌++◌, map, append_assoc}
 use mathlib.Core.Option.{Option, none, some}
-use mathlib.Core.Path.{◌≡◌, refl, sym, ap, ◌∙◌}
+use mathlib.Core.Path.{◌≡◌, refl, ap, ◌∙◌}
 use lib.Dec.{eqb, eqb-suc-zero}
 use lib.IntN.{ℤ}
 use lib.ListN.{length, take}
@@ -21,21 +21,14 @@ use Rattle.meaning.specs.Strict as F
 use Rattle.meaning.specs.Strict.{◌⊕◌, Tensor, Form, spell}
 use Rattle.meaning.specs.Written.{◌>>=◌, unless, listed, dimension_of, first, form_as, written, tensor_of, view_of, tensor_in, shape_in, strides_in, tile_in}
 use Rattle.meaning.specs.Written.{map_in, traversal_in}
-use Rattle.writer.specs.Flat.{behind, entry, clause, some_clause, shaped, body_text, padding_text, lead_text, travel_text, map_text, sparse_text, body_in, inner_in}
+use Rattle.writer.specs.Flat.{behind, clause, shaped, strides_text, body_text, padding_text, lead_text, travel_text, map_text, sparse_text, body_in, inner_in}
 use Rattle.writer.specs.Flat.{element_text, text_as, text, some_in, strides_fine, shown_as, shown}
 
 -- ── lists ──
-dims_is : (zs : List ℤ) → behind (bytes "x") entry zs ++ bytes "x" ≡ 120 ∷ F.dims (map dimension_of zs)
-dims_is [] = refl
-dims_is (z ∷ zs) = ap (λ (l : Text). 120 ∷ l) (append_assoc (entry z) (behind (bytes "x") entry zs) (bytes "x") ∙ ap (λ (l : Text). entry z ++ l) (dims_is zs))
-
 shaped_is : (zs : List ℤ) → F.dims (map dimension_of zs) ≡ shaped zs
-unfolding clause some_clause
+unfolding shaped
 shaped_is [] = refl
-shaped_is (z ∷ zs) = sym (append_assoc (entry z) (behind (bytes "x") entry zs) (bytes "x") ∙ ap (λ (l : Text). entry z ++ l) (dims_is zs))
-
-dims_then : (zs : List ℤ) (r : Text) → 120 ∷ (F.dims (map dimension_of zs) ++ r) ≡ behind (bytes "x") entry zs ++ (120 ∷ r)
-dims_then zs r = ap (λ (l : Text). l ++ r) (sym (dims_is zs)) ∙ append_assoc (behind (bytes "x") entry zs) (bytes "x") r
+shaped_is (z ∷ zs) = rw (shaped_is zs, append_assoc)
 
 rest_is : {A : Type 0} (g : A → Text) (f : ℤ → A) (zs : List ℤ) → F.rest g (map (λ (z : ℤ). record { space = false; entry = f z }) zs) ≡ behind (bytes ",") (λ (z : ℤ). g (f z)) zs
 rest_is g f [] = refl
@@ -60,11 +53,11 @@ abbrev fine : List ℤ → List ℤ → Bool
 fine ds zs = filled zs || not (filled ds)
 
 tensor_tells : (e : Scalar) (m : Bool) (ds zs : List ℤ) → Tells (tensor_of e m ds zs) (fine ds zs) (body_text e m ds zs)
-unfolding Tells clause some_clause
+unfolding Tells clause shaped strides_text
 tensor_tells e m [] [] = refl
 tensor_tells e m (d ∷ ds) [] = tt
 tensor_tells e m [] (z ∷ zs) = simp (append_assoc, rest_is dim dimension_of zs)
-tensor_tells e m (d ∷ ds) (z ∷ zs) = simp (append_assoc, dims_then ds, rest_is dim dimension_of zs)
+tensor_tells e m (d ∷ ds) (z ∷ zs) = simp (append_assoc, shaped_is (d ∷ ds), rest_is dim dimension_of zs)
 
 abbrev spelt : Option Form → Option Text
 spelt o = each spell o

@@ -20,7 +20,7 @@ use Rattle.meaning.specs.declared.Padding.TheVariants.{Absent, Zero, NegZero, Na
 use Rattle.meaning.specs.Decimal.{decimal, dim, dynamic, known}
 use Rattle.meaning.specs.Strict.{mark}
 use Rattle.meaning.specs.Written.{unknown, shape_in, tile_in, map_in, traversal_in}
-use Rattle.writer.specs.Flat.{word_of, padding_text, entry, behind, parted, clause, some_clause, shaped, body_in, inner_in, lead_text, travel_text, map_text}
+use Rattle.writer.specs.Flat.{word_of, padding_text, entry, behind, parted, clause, shaped, strides_text, body_in, inner_in, lead_text, travel_text, map_text}
 use Rattle.writer.specs.Flat.{sparse_text, pointer_text, element_text, text, text_as, Small}
 use Rattle.writer.proofs.Digits.{short}
 
@@ -94,18 +94,25 @@ module _ (f : ℤ → Text) (b k : ℕ) (s : (z : ℤ) → mag z < 2 ^ b → len
       let a = length-append (f z) (behind (v ∷ []) f (take n l)) in
       omega (arith, s z (h 0), mul-le-mul_left (k + 1) p)
 
-module _ (head : Text) (v : ℕ) (tail : Text) (n cap : ℕ) (l : List ℤ) (p : n ≤ cap) (q : 1 ≤ cap) where
-  some_short : Below 63 l → length (some_clause entry head v (take n l) tail) + 1 ≤ 21 * cap + length head + length tail
-  unfolding clause some_clause
-  some_short h = by (take n l) (parted_short entry 63 20 entry_short v n cap l p q h)
-    where
-      by : (k : List ℤ) → length (parted (v ∷ []) entry k) + 1 ≤ 21 * cap → length (some_clause entry head v k tail) + 1 ≤ 21 * cap + length head + length tail
-      by [] e = omega arith
-      by (z ∷ k) e = simp length-append (omega (arith, length-append (entry z) (behind (v ∷ []) entry k)))
+strides_short : (n cap : ℕ) (l : List ℤ) → n ≤ cap → 1 ≤ cap → Below 63 l → length (strides_text (take n l)) ≤ 21 * cap + 11
+unfolding clause strides_text
+strides_short n cap l p q h = by (take n l) (parted_short entry 63 20 entry_short 44 n cap l p q h)
+  where
+    by : (k : List ℤ) → length (parted (44 ∷ []) entry k) + 1 ≤ 21 * cap → length (strides_text k) ≤ 21 * cap + 11
+    by [] e = omega arith
+    by (z ∷ k) e = simp length-append (omega (arith, length-append (entry z) (behind (44 ∷ []) entry k)))
 
-  clause_short : Below 31 l → length (clause decimal head v (take n l) tail) + 1 ≤ 12 * cap + length head + length tail
-  unfolding clause
-  clause_short h = simp length-append (omega (arith, parted_short decimal 31 11 small_short v n cap l p q h))
+clause_short : (head : Text) (v : ℕ) (tail : Text) (n cap : ℕ) (l : List ℤ) → n ≤ cap → 1 ≤ cap → Below 31 l → length (clause decimal head v (take n l) tail) + 1 ≤ 12 * cap + length head + length tail
+unfolding clause
+clause_short head v tail n cap l p q h = simp length-append (omega (arith, parted_short decimal 31 11 small_short v n cap l p q h))
+
+shaped_short : (n : ℕ) (l : List ℤ) → Below 63 l → length (shaped (take n l)) ≤ 21 * n
+unfolding shaped
+shaped_short zero l h = zero-le
+shaped_short (suc n) [] h = zero-le
+shaped_short (suc n) (z ∷ l) h =
+    let e = mul-suc 21 n in
+    simp length-append (omega (arith, entry_short z (h 0), shaped_short n l (λ i. h (suc i))))
 
 -- ── the record ──
 pub record Ranged (r : Record) : Type 0 where
@@ -118,14 +125,14 @@ pub record Ranged (r : Record) : Type 0 where
 
 module _ (cap : ℕ) (one : 1 ≤ cap) (r : Record) (s : Small cap r) (g : Ranged r) where
   shape_short : length (shaped (shape_in r)) ≤ 21 * cap
-  shape_short = omega (arith, some_short [] 120 (bytes "x") r.shape_len cap r.shape s.shape one g.shape)
+  shape_short = omega (arith, shaped_short r.shape_len r.shape g.shape, mul-le-mul_left 21 s.shape)
 
   pub body_short : length (body_in r) ≤ 42 * cap + 47
   unfolding body_in
   body_short = simp length-append (omega (
     arith,
     shape_short,
-    some_short (bytes ", strides=[") 44 (bytes "]") r.strides_len cap r.strides s.strides one g.strides,
+    strides_short r.strides_len cap r.strides s.strides one g.strides,
     word_short r.element,
     mark_short r.attribute,
   ))

@@ -1,6 +1,7 @@
 -- For the private contracts: the written text built without its form, one part behind the other, and which records have one.
 -- Where a caller puts a text as one part, its definition is `unfoldable`.
 use Rattle.std.specs.Prelude.{ℕ, ◌≤◌, Bool, true, false, ◌&&◌, ◌||◌, not, List, [], ◌∷◌, ◌≡◌, eqb, ℤ, length}
+use Rattle.std.specs.List.{flat_map}
 use Prim.Native.Char.{code}
 use Rattle.lexis.specs.Text.{Text, bytes}
 use Rattle.scalars.specs.declared.scalar.Scalar.{Scalar}
@@ -13,33 +14,34 @@ use Rattle.meaning.specs.Strict as S
 use Rattle.meaning.specs.Strict.{◌⊕◌}
 use Rattle.meaning.specs.Written.{first, pads_of, dimension_of, shape_in, strides_in, tile_in, map_in, traversal_in}
 
--- ── lists: each further entry behind a separator; each entry before an `x` ──
+-- ── lists ──
 
+-- each entry behind a separator
 abbrev pub behind : {A : Type 0} → Text → (A → Text) → List A → Text
-behind sep f [] = []
-behind sep f (z ∷ zs) = sep ⊕ f z ⊕ behind sep f zs
+behind sep f l = flat_map (λ e. sep ⊕ f e) l
 
+-- each further entry behind one
 abbrev pub parted : {A : Type 0} → Text → (A → Text) → List A → Text
 parted sep f [] = []
-parted sep f (z ∷ zs) = f z ⊕ behind sep f zs
-
-abbrev pub entry : ℤ → Text
-entry z = dim (dimension_of z)
+parted sep f (e ∷ l) = f e ⊕ behind sep f l
 
 -- a list between two texts
 unfoldable pub clause : {A : Type 0} → (A → Text) → Text → ℕ → List A → Text → Text
 clause f head sep l tail = head ⊕ parted (sep ∷ []) f l ⊕ tail
 
--- the same, or nothing where the list is empty
-unfoldable pub some_clause : {A : Type 0} → (A → Text) → Text → ℕ → List A → Text → Text
-some_clause f head sep [] tail = []
-some_clause f head sep (z ∷ zs) tail = clause f head sep (z ∷ zs) tail
+abbrev pub entry : ℤ → Text
+entry z = dim (dimension_of z)
 
-abbrev pub shaped : List ℤ → Text
-shaped zs = some_clause entry [] (code "x") zs (bytes "x")
+abbrev pub before_x : ℤ → Text
+before_x z = entry z ⊕ bytes "x"
 
-abbrev pub strides_text : List ℤ → Text
-strides_text zs = some_clause entry (bytes ", strides=[") (code ",") zs (bytes "]")
+unfoldable pub shaped : List ℤ → Text
+shaped zs = flat_map before_x zs
+
+-- nothing where there are none
+unfoldable pub strides_text : List ℤ → Text
+strides_text [] = []
+strides_text (z ∷ zs) = clause entry (bytes ", strides=[") (code ",") (z ∷ zs) (bytes "]")
 
 abbrev pub word_of : Scalar → Text
 word_of e = S.word (first e)

@@ -1,7 +1,7 @@
 // Lists put entry after entry.
 ghost use Rattle.std.specs.Prelude.{◌≡◌, List, [], ◌∷◌, ◌++◌, ℕ, ◌+◌, ◌≤◌, length};
 ghost use Rattle.meaning.specs.Decimal.{decimal};
-ghost use Rattle.writer.specs.Flat.{entry, parted, clause, some_clause};
+ghost use Rattle.writer.specs.Flat.{entry, parted, clause};
 
 use super::put::{Draft, LONGEST};
 
@@ -61,16 +61,5 @@ impl Draft {
         self.put_bytes(head);
         self.put_entries(l, sep);
         self.put_bytes(tail);
-    }
-
-    // The same, or nothing where `l` is empty.
-    #[tactic(auto, using(crate::proofs::Entries::filled))]
-    pub(crate) fn put_some_clause<E: Entry>(&mut self, head: &[u8], l: &[E], sep: u8, tail: &[u8])
-        requires { length self.old + length (some_clause E.text head.now sep l.now tail.now) ≤ LONGEST }
-        ensures { self.new ≡ self.old ++ some_clause E.text head.now sep l.now tail.now }
-    {
-        if !l.is_empty() {
-            self.put_clause(head, l, sep, tail);
-        }
     }
 }

@@ -22,11 +22,15 @@ impl Draft {
     }
 
     // A shape, with an `x` behind each entry.
+    #[tactic(auto, unfolding(crate::specs::Flat::shaped))]
     pub(crate) fn put_shape(&mut self, v: Fit)
         requires { length self.old + length (shaped (shape_in v.r.now)) ≤ LONGEST }
         ensures { self.new ≡ self.old ++ shaped (shape_in v.entry.r.now) }
     {
-        self.put_some_clause(b"", v.shape(), b'x', b"x");
+        for z in v.shape() {
+            z.put(self);
+            self.put_byte(b'x');
+        }
     }
 
     // `, strides=[..]`, or nothing.
@@ -34,7 +38,10 @@ impl Draft {
         requires { length self.old + length (strides_text (strides_in v.r.now)) ≤ LONGEST }
         ensures { self.new ≡ self.old ++ strides_text (strides_in v.entry.r.now) }
     {
-        self.put_some_clause(b", strides=[", v.strides(), b',', b"]");
+        let l = v.strides();
+        if !l.is_empty() {
+            self.put_clause(b", strides=[", l, b',', b"]");
+        }
     }
 
     // What stands in a tensor view's brackets.
