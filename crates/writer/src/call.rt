@@ -5,7 +5,7 @@ ghost use Rattle.writer.specs.Flat.{text};
 
 use super::fit::Fit;
 use super::has_text::has_text;
-use super::put::Draft;
+use super::put::{Draft, LONGEST};
 use meaning::{Record, Refusal, Written, is_normal};
 
 // A refusal: no length, and no byte touched.
@@ -17,7 +17,7 @@ fn refused(refusal: Refusal) -> Written
 
 // The text of a record that has one.
 fn laid(r: Fit, room: &mut [u8]) -> Written
-    requires within { length (text r.r.now) ≤ 773 }
+    requires { length (text r.r.now) ≤ LONGEST }
     ensures { outcome result room.new ≡ laid_in room.old (text r.entry.r.now) }
 {
     let mut draft = Draft::new();

@@ -29,7 +29,7 @@ laid-requires c =
     let q : A.Arrays 8 r = omega arith in
     let g : Ranged r = search (rules, within_64, within_32) in
     let n = sym c.is_normal.ensures ∙ c.if-not-is_normal.false in
-    record { within = omega (arith, text_short 8 (lit≤ tt) r (A.small 8 r n q) g) }
+    omega (arith, text_short 8 (lit≤ tt) r (A.small 8 r n q) g)
 
 pub returns : goal.returns
 returns c =
