@@ -3,6 +3,7 @@ use Rattle.std.specs.Prelude.{if◌then◌else◌}
 use Prim.Native.Nat.{ℕ, zero, suc, ◌<◌}
 use native.Mathlib.Omega.{arith}
 use mathlib.Core.Bool.{Bool, true, false, ◌&&◌, ◌||◌, not}
+use Rattle.std.proofs.Math.Bool.{not-not}
 use mathlib.Core.List.{List, [], ◌∷◌, ◌++◌, map, append_assoc}
 use mathlib.Core.Option.{Option, none, some}
 use mathlib.Core.Path.{◌≡◌, refl, ap, ◌∙◌}
@@ -123,10 +124,6 @@ counted n [] h = let f : ⊥ = omega arith in absurd f
 counted zero (z ∷ l) h = refl
 counted (suc n) (z ∷ l) h = rw (eqb-suc-zero n)
 
-not_not : (b : Bool) → not (not b) ≡ b
-not_not true = refl
-not_not false = refl
-
 plain_law : (x : Form) (m : Bool) → spelt (unless m x) ≡ either (not m) (spell x)
 plain_law x true = refl
 plain_law x false = refl
@@ -142,7 +139,7 @@ tile_law false false e ds = simp (shaped_is ds)
 fine_is : (r : Record) → Whole r → fine (shape_in r) (strides_in r) ≡ strides_fine r
 fine_is r w = λ i.
     counted r.strides_len r.strides w.strides i
-    || (ap not (counted r.shape_len r.shape w.shape) ∙ not_not (eqb r.shape_len 0)) i
+    || (ap not (counted r.shape_len r.shape w.shape) ∙ not-not (eqb r.shape_len 0)) i
 
 same_as : (k : Kind) (r : Record) → Whole r → spelt (form_as k r) ≡ either (shown_as k r) (text_as k r)
 unfolding body_in inner_in
