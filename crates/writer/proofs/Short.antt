@@ -8,6 +8,7 @@ use mathlib.Core.List.{List, [], ◌∷◌}
 use lib.Dec.{lit≤}
 use lib.ListN.{length, length-append, take, get_or}
 use lib.IntN.{ℤ, pos, negsuc}
+use Rattle.std.specs.List.{flat_map}
 use lib.Signed.{mag}
 use Rattle.lexis.specs.Text.{Text, bytes}
 use Rattle.scalars.specs.declared.scalar.Scalar.{Scalar}
@@ -20,7 +21,7 @@ use Rattle.meaning.specs.declared.Padding.TheVariants.{Absent, Zero, NegZero, Na
 use Rattle.meaning.specs.Decimal.{decimal, dim, dynamic, known}
 use Rattle.meaning.specs.Strict.{mark}
 use Rattle.meaning.specs.Written.{unknown, shape_in, tile_in, map_in, traversal_in}
-use Rattle.writer.specs.Flat.{word_of, padding_text, entry, behind, parted, clause, shaped, strides_text, body_in, inner_in, lead_text, travel_text, map_text}
+use Rattle.writer.specs.Flat.{word_of, padding_text, entry, before_x, behind, parted, clause, shaped, strides_text, body_in, inner_in, lead_text, travel_text, map_text}
 use Rattle.writer.specs.Flat.{sparse_text, pointer_text, element_text, text, text_as, Small}
 use Rattle.writer.proofs.Digits.{short}
 
@@ -74,23 +75,22 @@ entry_short z h = go (unknown z)
 abbrev pub Below : ℕ → List ℤ → Type 0
 Below k l = (i : ℕ) → mag (get_or l i (pos 0)) < 2 ^ k
 
-module _ (f : ℤ → Text) (b k : ℕ) (s : (z : ℤ) → mag z < 2 ^ b → length (f z) ≤ k) where
-  behind_short : (v n : ℕ) (l : List ℤ) → Below b l → length (behind (v ∷ []) f (take n l)) ≤ (k + 1) * n
-  behind_short v zero l h = zero-le
-  behind_short v (suc n) [] h = zero-le
-  behind_short v (suc n) (z ∷ l) h =
-      let e = mul-suc (k + 1) n in
-      let r = behind_short v n l (λ i. h (suc i)) in
-      let a = length-append (f z) (behind (v ∷ []) f (take n l)) in
-      omega (arith, s z (h 0))
+flat_short : (g : ℤ → Text) (b m : ℕ) → ((z : ℤ) → mag z < 2 ^ b → length (g z) ≤ m) → (n : ℕ) (l : List ℤ) → Below b l → length (flat_map g (take n l)) ≤ m * n
+flat_short g b m s zero l h = zero-le
+flat_short g b m s (suc n) [] h = zero-le
+flat_short g b m s (suc n) (z ∷ l) h =
+    let e = mul-suc m n in
+    let r = flat_short g b m s n l (λ i. h (suc i)) in
+    simp length-append (omega (arith, s z (h 0)))
 
+module _ (f : ℤ → Text) (b k : ℕ) (s : (z : ℤ) → mag z < 2 ^ b → length (f z) ≤ k) where
   -- with no entry there is nothing, and a capacity above zero has room for it
   parted_short : (v n cap : ℕ) (l : List ℤ) → n ≤ cap → 1 ≤ cap → Below b l → length (parted (v ∷ []) f (take n l)) + 1 ≤ (k + 1) * cap
   parted_short v zero cap l p q h = omega (arith, mul-le-mul_left (k + 1) q)
   parted_short v (suc n) cap [] p q h = omega (arith, mul-le-mul_left (k + 1) q)
   parted_short v (suc n) cap (z ∷ l) p q h =
       let e = mul-suc (k + 1) n in
-      let r = behind_short v n l (λ i. h (suc i)) in
+      let r = flat_short (λ (z : ℤ). v ∷ f z) b (k + 1) (λ z p. omega (arith, s z p)) n l (λ i. h (suc i)) in
       let a = length-append (f z) (behind (v ∷ []) f (take n l)) in
       omega (arith, s z (h 0), mul-le-mul_left (k + 1) p)
 
@@ -108,11 +108,7 @@ clause_short head v tail n cap l p q h = simp length-append (omega (arith, parte
 
 shaped_short : (n : ℕ) (l : List ℤ) → Below 63 l → length (shaped (take n l)) ≤ 21 * n
 unfolding shaped
-shaped_short zero l h = zero-le
-shaped_short (suc n) [] h = zero-le
-shaped_short (suc n) (z ∷ l) h =
-    let e = mul-suc 21 n in
-    simp length-append (omega (arith, entry_short z (h 0), shaped_short n l (λ i. h (suc i))))
+shaped_short n l h = flat_short before_x 63 21 (λ z p. simp length-append (omega (arith, entry_short z p))) n l h
 
 -- ── the record ──
 pub record Ranged (r : Record) : Type 0 where
