@@ -1,5 +1,5 @@
 -- The strict reader's and the writer's answers in numbers (docs/ABI.md).
-use Rattle.std.specs.Prelude.{◌≡◌, Option, None, Some}
+use Rattle.std.specs.Prelude.{◌≡◌, Option, Some, None}
 use Rattle.lexis.specs.Text.{Text}
 use Rattle.meaning.specs.Refusals.{number}
 use Rattle.meaning.specs.declared.Reading.{Reading}

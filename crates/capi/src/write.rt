@@ -2,6 +2,7 @@
 ghost use Rattle.std.specs.Prelude.{◌≡◌};
 ghost use Rattle.capi.specs.Abi.{outcome, write_numbers};
 
+use meaning::Refusal;
 use numbers::TypetextRecord;
 
 // The writer's answer in numbers.
@@ -12,19 +13,20 @@ pub struct TypetextWritten {
     pub refusal: u8,
 }
 
-fn write_numbers(n: TypetextRecord, room: &mut [u8]) -> TypetextWritten
-    ensures { outcome result room.new ≡ write_numbers n room.old }
+#[tactic(auto, unfolding(crate::specs::Abi::write_numbers))]
+fn write_numbers(n: &TypetextRecord, room: &mut [u8]) -> TypetextWritten
+    ensures { outcome result room.new ≡ write_numbers n.now room.old }
 {
-    let s = numbers::of_numbers(n);
-    if !s.known {
-        return TypetextWritten { len: 0, refusal: 6 };
-    }
-    let v = s.value;
+    let Some(v) = numbers::of_numbers(n) else {
+        return TypetextWritten {
+            len: 0,
+            refusal: Refusal::NotNormal.number(),
+        };
+    };
     let w = writer::write(v, room);
-    let refusal = w.refusal;
     TypetextWritten {
         len: w.len,
-        refusal: refusal.number(),
+        refusal: w.refusal.number(),
     }
 }
 
@@ -33,5 +35,5 @@ fn write_numbers(n: TypetextRecord, room: &mut [u8]) -> TypetextWritten
 pub extern "C" fn typetext_write(record: &TypetextRecord, room: &mut [u8]) -> TypetextWritten
     ensures { outcome result room.new ≡ write_numbers «record».now room.old }
 {
-    write_numbers(*record, room)
+    write_numbers(record, room)
 }

@@ -1,11 +1,11 @@
 -- Nothing is lost across the face: a record's numbers give the record back, those that the reader answered too, and no other numbers give it.
 use Prim.Native.Nat.{ℕ, zero, suc, ◌+◌}
 use native.Mathlib.Omega.{arith}
-use mathlib.Core.Bool.{Bool, true, false, ◌&&◌}
+use mathlib.Core.Bool.{Bool, true, false}
 use mathlib.Core.List.{List, [], ◌∷◌}
-use Rattle.std.specs.Prelude.{Option, None, Some}
+use Rattle.std.specs.Prelude.{Option, Some, None}
 use mathlib.Core.Path.{◌≡◌, refl, subst}
-use lib.Dec.{T, eqb, eqb→eq}
+use Rattle.std.proofs.Common.{rules}
 use Rattle.scalars.specs.declared.scalar.Scalar.{Scalar}
 use Rattle.scalars.specs.declared.scalar.Scalar.TheVariants.{I1, I4, I8, I16, I32, I64, F16, BF16, F32, TF32, F64, F8E4M3FN, F8E5M2, F8E8M0FNU, F4E2M1FN, F8E5M3FNU}
 use Rattle.meaning.specs.declared.Kind.{Kind}
@@ -15,8 +15,7 @@ use Rattle.meaning.specs.declared.Padding.TheVariants.{Absent, Zero, NegZero, Na
 use Rattle.meaning.specs.declared.Reading.{Reading}
 use Rattle.meaning.specs.declared.Record.{Record}
 use Rattle.numbers.specs.declared.TypetextRecord.{TypetextRecord}
-use Rattle.numbers.specs.Numbers.{kind_number, scalar_number, padding_number, flag_number, nth, kinds, scalars, paddings, flags, kind_of, scalar_of, padding_of, flag_of, in_numbers, record_numbers, of_numbers}
-use Rattle.numbers.proofs.Records.{five, built}
+use Rattle.numbers.specs.Numbers.{kind_number, scalar_number, padding_number, flag_number, nth, kinds, scalars, paddings, flags, kind_of, scalar_of, padding_of, flag_of, in_numbers, record_numbers, of_numbers, ◌>>=◌}
 
 kind_back : (k : Kind) → kind_of (kind_number k) ≡ Some k
 kind_back K.Scalar = refl
@@ -69,29 +68,53 @@ reading_back r = record_back r.value
 
 -- ── and back: each case's number is its place ──
 
-abbrev placed : {A : Type 0} → (A → ℕ) → ℕ → List A → Bool
-placed f k [] = true
-placed f k (x ∷ xs) = eqb (f x) k && placed f (suc k) xs
+abbrev Placed : {A : Type 0} → (A → ℕ) → ℕ → List A → Type 0
+Placed f k [] = Unit {0}
+Placed f k (x ∷ xs) = (f x ≡ k) × Placed f (suc k) xs
 
 abbrev Numbered : {A : Type 0} → (A → ℕ) → ℕ → Option A → Type 0
 Numbered f n None = Unit {0}
 Numbered f n (Some x) = f x ≡ n
 
-both : (a b : Bool) → T (a && b) → T a × T b
-both true b h = (tt, h)
-both false b h = absurd h
-
-place : {A : Type 0} (f : A → ℕ) (xs : List A) (k n : ℕ) → T (placed f k xs) → Numbered f (n + k) (nth xs n)
+place : {A : Type 0} (f : A → ℕ) (xs : List A) (k n : ℕ) → Placed f k xs → Numbered f (n + k) (nth xs n)
 place f [] k n h = tt
-place f (x ∷ xs) k zero h = let e = eqb→eq (f x) k (both (eqb (f x) k) (placed f (suc k) xs) h).0 in omega (arith, e)
+place f (x ∷ xs) k zero h = omega (arith, h.0)
 place f (x ∷ xs) k (suc n) h =
     let p : n + suc k ≡ suc n + k = omega arith in
-    subst (λ (m : ℕ). Numbered f m (nth xs n)) p (place f xs (suc k) n (both (eqb (f x) k) (placed f (suc k) xs) h).1)
+    subst (λ (m : ℕ). Numbered f m (nth xs n)) p (place f xs (suc k) n h.1)
 
-from_zero : {A : Type 0} (f : A → ℕ) (xs : List A) (n : ℕ) → T (placed f 0 xs) → Numbered f n (nth xs n)
+from_zero : {A : Type 0} (f : A → ℕ) (xs : List A) (n : ℕ) → Placed f 0 xs → Numbered f n (nth xs n)
 from_zero f xs n h =
     let p : n + 0 ≡ n = omega arith in
     subst (λ (m : ℕ). Numbered f m (nth xs n)) p (place f xs 0 n h)
+
+-- five answers together
+abbrev Five : Type 0
+Five = Kind → Scalar → Padding → Bool → Bool → Record
+
+abbrev five : Five → Option Kind → Option Scalar → Option Padding → Option Bool → Option Bool → Option Record
+five F k e p f m = k >>= λ k. e >>= λ e. p >>= λ p. f >>= λ f. m >>= λ m. Some (F k e p f m)
+
+-- the record of five cases and what else is sent
+abbrev built : TypetextRecord → Five
+built n k e p f m = record {
+  kind = k;
+  element = e;
+  pointer = f;
+  attribute = m;
+  shape = n.shape;
+  shape_len = n.shape_len;
+  strides = n.strides;
+  strides_len = n.strides_len;
+  tile = n.tile;
+  tile_len = n.tile_len;
+  map = n.map;
+  map_len = n.map_len;
+  traversal = n.traversal;
+  traversal_len = n.traversal_len;
+  sparse = n.sparse;
+  padding = p;
+}
 
 abbrev Only : TypetextRecord → Option Record → Type 0
 Only n None = Unit {0}
@@ -129,8 +152,8 @@ pub record_only : (n : TypetextRecord) → Only n (of_numbers n)
 unfolding of_numbers
 record_only n =
     only_five n (kind_of n.kind) (scalar_of n.element) (padding_of n.padding) (flag_of n.pointer) (flag_of n.attribute)
-    (from_zero kind_number kinds n.kind tt)
-    (from_zero scalar_number scalars n.element tt)
-    (from_zero padding_number paddings n.padding tt)
-    (from_zero flag_number flags n.pointer tt)
-    (from_zero flag_number flags n.attribute tt)
+    (from_zero kind_number kinds n.kind (search rules))
+    (from_zero scalar_number scalars n.element (search rules))
+    (from_zero padding_number paddings n.padding (search rules))
+    (from_zero flag_number flags n.pointer (search rules))
+    (from_zero flag_number flags n.attribute (search rules))

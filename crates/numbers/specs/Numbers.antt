@@ -1,9 +1,8 @@
 -- Readings and records in numbers, as they cross to C (docs/ABI.md), and back: kinds, scalars and paddings in document 01's order.
-use Rattle.std.specs.Prelude.{ℕ, zero, suc, Bool, true, false, List, [], ◌∷◌, ◌≡◌, Option, None, Some}
+use Rattle.std.specs.Prelude.{ℕ, zero, suc, Bool, true, false, List, [], ◌∷◌, Option, Some, None}
 use Rattle.scalars.specs.declared.scalar.Scalar.{Scalar}
 use Rattle.scalars.specs.declared.scalar.Scalar.TheVariants.{I1, I4, I8, I16, I32, I64, F16, BF16, F32, TF32, F64, F8E4M3FN, F8E5M2, F8E8M0FNU, F4E2M1FN, F8E5M3FNU}
 use Rattle.meaning.specs.Refusals.{number}
-use Rattle.meaning.specs.Found.{flat, token}
 use Rattle.meaning.specs.declared.Kind.{Kind}
 use Rattle.meaning.specs.declared.Kind.TheVariants as K
 use Rattle.meaning.specs.declared.Note.{Note}
@@ -11,11 +10,9 @@ use Rattle.meaning.specs.declared.Padding.{Padding}
 use Rattle.meaning.specs.declared.Padding.TheVariants.{Absent, Zero, NegZero, Nan, PosInf, NegInf}
 use Rattle.meaning.specs.declared.Reading.{Reading}
 use Rattle.meaning.specs.declared.Record.{Record}
-use Rattle.meaning.specs.Written.{◌>>=◌}
 use Rattle.numbers.specs.declared.TypetextNote.{TypetextNote}
 use Rattle.numbers.specs.declared.TypetextReading.{TypetextReading}
 use Rattle.numbers.specs.declared.TypetextRecord.{TypetextRecord}
-use Rattle.numbers.specs.declared.sent.Sent.{Sent}
 
 -- ── to numbers ──
 
@@ -123,6 +120,12 @@ padding_of n = nth paddings n
 abbrev pub flag_of : ℕ → Option Bool
 flag_of n = nth flags n
 
+-- what `?` does: the rest, where there is a value
+infixl 20 ◌>>=◌
+abbrev pub ◌>>=◌ : {A B : Type 0} → Option A → (A → Option B) → Option B
+None >>= f = None
+Some a >>= f = f a
+
 -- the record with these numbers, if there is one
 unfoldable pub of_numbers : TypetextRecord → Option Record
 of_numbers n =
@@ -149,19 +152,3 @@ of_numbers n =
       sparse = n.sparse;
       padding = padding;
     })
-
--- what is answered: the record, or that there is none, beside a blank one
-abbrev pub sent : Option Record → Sent
-sent (Some r) = record { known = true; value = r }
-sent None = record { known = false; value = flat 8 token }
-
--- ── for the private contracts ──
-
-abbrev pub given : {A : Type 0} → Option A → Bool
-given None = false
-given (Some a) = true
-
--- the value, where there is one
-abbrev pub Value : {A : Type 0} → Option A → A → Type 0
-Value None x = Unit {0}
-Value (Some a) x = x ≡ a

@@ -5,11 +5,11 @@
 mod sent;
 
 ghost use Rattle.std.specs.Prelude.{◌≡◌};
-ghost use Rattle.numbers.specs.Numbers.{kind_number, scalar_number, padding_number, flag_number, record_numbers, note_numbers, in_numbers};
+ghost use Rattle.numbers.specs.Numbers.{kind_number, scalar_number, padding_number, record_numbers, note_numbers, in_numbers};
 
 use meaning::{CAP, Kind, Note, Padding, Reading, Record};
 use scalars::Scalar;
-pub use sent::{Sent, of_numbers};
+pub use sent::of_numbers;
 
 // A record in numbers, as a caller may send it.
 #[repr(C)]
@@ -56,66 +56,26 @@ pub struct TypetextReading {
 fn kind_number(k: Kind) -> u8
     ensures { result ≡ kind_number k }
 {
-    match k {
-        Kind::Scalar => 0,
-        Kind::Pointer => 1,
-        Kind::Tile => 2,
-        Kind::TensorView => 3,
-        Kind::Partition => 4,
-        Kind::GatherScatter => 5,
-        Kind::Strided => 6,
-        Kind::Token => 7,
-    }
+    k as u8
 }
 
 fn scalar_number(s: Scalar) -> u8
     ensures { result ≡ scalar_number s }
 {
-    match s {
-        Scalar::I1 => 0,
-        Scalar::I4 => 1,
-        Scalar::I8 => 2,
-        Scalar::I16 => 3,
-        Scalar::I32 => 4,
-        Scalar::I64 => 5,
-        Scalar::F16 => 6,
-        Scalar::BF16 => 7,
-        Scalar::F32 => 8,
-        Scalar::TF32 => 9,
-        Scalar::F64 => 10,
-        Scalar::F8E4M3FN => 11,
-        Scalar::F8E5M2 => 12,
-        Scalar::F8E8M0FNU => 13,
-        Scalar::F4E2M1FN => 14,
-        Scalar::F8E5M3FNU => 15,
-    }
+    s as u8
 }
 
 fn padding_number(p: Padding) -> u8
     ensures { result ≡ padding_number p }
 {
-    match p {
-        Padding::Absent => 0,
-        Padding::Zero => 1,
-        Padding::NegZero => 2,
-        Padding::Nan => 3,
-        Padding::PosInf => 4,
-        Padding::NegInf => 5,
-    }
+    p as u8
 }
 
-fn flag_number(b: bool) -> u8
-    ensures { result ≡ flag_number b }
-{
-    b as u8
-}
-
+#[tactic(auto, unfolding(crate::specs::Numbers::record_numbers))]
 fn record_numbers(v: Record) -> TypetextRecord
     ensures { result ≡ record_numbers v }
 {
-    let kind = v.kind;
-    let element = v.element;
-    let padding = v.padding;
+    // kept: an array field put straight into another struct gets no proof
     let shape = v.shape;
     let strides = v.strides;
     let tile = v.tile;
@@ -133,11 +93,11 @@ fn record_numbers(v: Record) -> TypetextRecord
         map,
         traversal,
         sparse: v.sparse,
-        kind: kind_number(kind),
-        element: scalar_number(element),
-        padding: padding_number(padding),
-        pointer: flag_number(v.pointer),
-        attribute: flag_number(v.attribute),
+        kind: kind_number(v.kind),
+        element: scalar_number(v.element),
+        padding: padding_number(v.padding),
+        pointer: v.pointer as u8,
+        attribute: v.attribute as u8,
     }
 }
 
@@ -152,16 +112,14 @@ fn note_numbers(n: Note) -> TypetextNote
     }
 }
 
+#[tactic(auto, unfolding(crate::specs::Numbers::in_numbers))]
 pub fn in_numbers(r: Reading) -> TypetextReading
     ensures { result ≡ in_numbers r }
 {
-    let v = r.value;
-    let note = r.note;
-    let refusal = r.refusal;
     TypetextReading {
-        value: record_numbers(v),
+        value: record_numbers(r.value),
         place: r.place,
-        note: note_numbers(note),
-        refusal: refusal.number(),
+        note: note_numbers(r.note),
+        refusal: r.refusal.number(),
     }
 }

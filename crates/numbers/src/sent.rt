@@ -1,96 +1,92 @@
 // Records from numbers: what a caller sends may be no record's.
 ghost use Rattle.std.specs.Prelude.{◌≡◌};
-ghost use Rattle.numbers.specs.Numbers.{kind_of, scalar_of, padding_of, flag_of, of_numbers, sent, given, Value};
+ghost use Rattle.numbers.specs.Numbers.{kind_of, scalar_of, padding_of, flag_of, of_numbers};
 
 use crate::TypetextRecord;
 use meaning::{Kind, Padding, Record};
 use scalars::Scalar;
 
-// What a caller sent: a record, or numbers that are no record's; the value is then blank.
-#[derive(Clone, Copy)]
-pub struct Sent {
-    pub known: bool,
-    pub value: Record,
-}
-
-fn kind_of(n: u8) -> Kind
-    ensures { Value (kind_of n) result }
+fn kind_of(n: u8) -> Option<Kind>
+    ensures { result ≡ kind_of n }
 {
     match n {
-        0 => Kind::Scalar,
-        1 => Kind::Pointer,
-        2 => Kind::Tile,
-        3 => Kind::TensorView,
-        4 => Kind::Partition,
-        5 => Kind::GatherScatter,
-        6 => Kind::Strided,
-        7..=255 => Kind::Token,
+        0 => Some(Kind::Scalar),
+        1 => Some(Kind::Pointer),
+        2 => Some(Kind::Tile),
+        3 => Some(Kind::TensorView),
+        4 => Some(Kind::Partition),
+        5 => Some(Kind::GatherScatter),
+        6 => Some(Kind::Strided),
+        7 => Some(Kind::Token),
+        _ => None,
     }
 }
 
-fn scalar_of(n: u8) -> Scalar
-    ensures { Value (scalar_of n) result }
+fn scalar_of(n: u8) -> Option<Scalar>
+    ensures { result ≡ scalar_of n }
 {
     match n {
-        0 => Scalar::I1,
-        1 => Scalar::I4,
-        2 => Scalar::I8,
-        3 => Scalar::I16,
-        4 => Scalar::I32,
-        5 => Scalar::I64,
-        6 => Scalar::F16,
-        7 => Scalar::BF16,
-        8 => Scalar::F32,
-        9 => Scalar::TF32,
-        10 => Scalar::F64,
-        11 => Scalar::F8E4M3FN,
-        12 => Scalar::F8E5M2,
-        13 => Scalar::F8E8M0FNU,
-        14 => Scalar::F4E2M1FN,
-        15..=255 => Scalar::F8E5M3FNU,
+        0 => Some(Scalar::I1),
+        1 => Some(Scalar::I4),
+        2 => Some(Scalar::I8),
+        3 => Some(Scalar::I16),
+        4 => Some(Scalar::I32),
+        5 => Some(Scalar::I64),
+        6 => Some(Scalar::F16),
+        7 => Some(Scalar::BF16),
+        8 => Some(Scalar::F32),
+        9 => Some(Scalar::TF32),
+        10 => Some(Scalar::F64),
+        11 => Some(Scalar::F8E4M3FN),
+        12 => Some(Scalar::F8E5M2),
+        13 => Some(Scalar::F8E8M0FNU),
+        14 => Some(Scalar::F4E2M1FN),
+        15 => Some(Scalar::F8E5M3FNU),
+        _ => None,
     }
 }
 
-fn padding_of(n: u8) -> Padding
-    ensures { Value (padding_of n) result }
+fn padding_of(n: u8) -> Option<Padding>
+    ensures { result ≡ padding_of n }
 {
     match n {
-        0 => Padding::Absent,
-        1 => Padding::Zero,
-        2 => Padding::NegZero,
-        3 => Padding::Nan,
-        4 => Padding::PosInf,
-        5..=255 => Padding::NegInf,
+        0 => Some(Padding::Absent),
+        1 => Some(Padding::Zero),
+        2 => Some(Padding::NegZero),
+        3 => Some(Padding::Nan),
+        4 => Some(Padding::PosInf),
+        5 => Some(Padding::NegInf),
+        _ => None,
     }
 }
 
-fn flag_of(n: u8) -> bool
-    ensures { Value (flag_of n) result }
+fn flag_of(n: u8) -> Option<bool>
+    ensures { result ≡ flag_of n }
 {
-    n == 1
+    match n {
+        0 => Some(false),
+        1 => Some(true),
+        _ => None,
+    }
 }
 
-// Whether some record has these numbers.
-fn known(n: TypetextRecord) -> bool
-    ensures { result ≡ given (of_numbers n) }
+// The record with these numbers, if there is one.
+#[tactic(auto, unfolding(crate::specs::Numbers::of_numbers))]
+pub fn of_numbers(n: &TypetextRecord) -> Option<Record>
+    ensures { result ≡ of_numbers n.now }
 {
-    (n.kind < 8) & (n.element < 16) & (n.padding < 6) & (n.pointer < 2) & (n.attribute < 2)
-}
-
-// The record with these numbers; any record where there is none.
-fn record_of(n: TypetextRecord) -> Record
-    ensures { Value (of_numbers n) result }
-{
+    // kept: an array field put straight into another struct gets no proof
     let shape = n.shape;
     let strides = n.strides;
     let tile = n.tile;
     let map = n.map;
     let traversal = n.traversal;
-    Record {
-        kind: kind_of(n.kind),
-        element: scalar_of(n.element),
-        pointer: flag_of(n.pointer),
-        attribute: flag_of(n.attribute),
+    Some(Record {
+        kind: kind_of(n.kind)?,
+        element: scalar_of(n.element)?,
+        padding: padding_of(n.padding)?,
+        pointer: flag_of(n.pointer)?,
+        attribute: flag_of(n.attribute)?,
         shape,
         shape_len: n.shape_len,
         strides,
@@ -102,22 +98,5 @@ fn record_of(n: TypetextRecord) -> Record
         traversal,
         traversal_len: n.traversal_len,
         sparse: n.sparse,
-        padding: padding_of(n.padding),
-    }
-}
-
-// The record with these numbers, if there is one.
-pub fn of_numbers(n: TypetextRecord) -> Sent
-    ensures { result ≡ sent (of_numbers n) }
-{
-    if !known(n) {
-        return Sent {
-            known: false,
-            value: meaning::blank(),
-        };
-    }
-    Sent {
-        known: true,
-        value: record_of(n),
-    }
+    })
 }

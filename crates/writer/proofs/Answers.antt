@@ -1,22 +1,17 @@
 -- The call's four answers, each from the test that leads to it; a normal record is small.
-use Rattle.std.specs.Prelude.{if◌then◌else◌, Option, None, Some}
-use Prim.Native.Nat.{ℕ, ◌≤◌, ◌<◌}
-use native.Mathlib.Nat.{zero-add}
+use Rattle.std.specs.Prelude.{if◌then◌else◌}
+use Prim.Native.Nat.{ℕ, ◌≤◌}
 use native.Mathlib.Omega.{arith}
 use mathlib.Core.Bool.{Bool, true, false}
-use mathlib.Core.List.{◌++◌}
+use mathlib.Core.Option.{Option, none, some}
 use mathlib.Core.Path.{◌≡◌, sym, ap, ◌∙◌}
-use borrow.Author.Tests.{le-leb, lt-leb}
-use lib.ListN.{length, take, drop}
-use lib.Seq.{take-append_seam}
+use lib.ListN.{length}
 use Rattle.lexis.specs.Text.{Text}
 use Rattle.meaning.specs.declared.Record.{Record}
-use Rattle.meaning.specs.declared.Refusal.TheVariants.{Accepted, NotNormal, NoText, RoomShort}
+use Rattle.meaning.specs.declared.Refusal.TheVariants.{NotNormal, NoText}
 use Rattle.meaning.specs.Normal.{normal}
-use Rattle.meaning.specs.Written.{Outcome, outcome, refused, texted, written, writing}
-use Rattle.writer.specs.Room.{Put}
+use Rattle.meaning.specs.Written.{Outcome, laid_in, refused, texted, written, writing}
 use Rattle.writer.specs.Flat.{Small, shown, text}
-use Rattle.writer.proofs.Rooms.{overlay_front}
 use Rattle.writer.proofs.Same.{Whole, same}
 use Rattle.writer.proofs.Opened.{opened}
 
@@ -56,21 +51,13 @@ small cap r e q =
       traversal_array = q.traversal;
     }
 
--- what was put at the front of a room that is long enough
-pub front : {s t x : Text} {n : ℕ} → Put s 0 x t n → length x ≤ length s → take n t ≡ x
-front {s} {t} {x} {n} p h =
-    (λ i. take ((p.place ∙ zero-add (length x)) i) ((p.room ∙ overlay_front s x h) i)) ∙ take-append_seam x (drop (length x) s)
-
 -- ── the answers ──
 
 abbrev normal_or : Bool → Record → Text → Outcome
 normal_or b r room = if b then texted (written r) room else refused NotNormal room
 
 abbrev shown_or : Bool → Record → Text → Outcome
-shown_or b r room = texted (if b then Some (text r) else None) room
-
-abbrev fits_or : Bool → Text → Text → Outcome
-fits_or b t room = if b then outcome (record { refusal = Accepted; len = length t }) (t ++ drop (length t) room) else refused RoomShort room
+shown_or b r room = texted (if b then some (text r) else none) room
 
 pub not_normal : (cap : ℕ) (r : Record) (room : Text) → normal cap r ≡ false → refused NotNormal room ≡ writing cap r room
 unfolding writing
@@ -87,12 +74,5 @@ module _ (cap : ℕ) (r : Record) (w : Whole r) (room : Text) (e : normal cap r 
   pub no_text : shown r ≡ false → refused NoText room ≡ writing cap r room
   no_text h = by_shown false h
 
-  pub room_short : shown r ≡ true → length room < length (text r) → refused RoomShort room ≡ writing cap r room
-  room_short h k = ap (λ (b : Bool). fits_or b (text r) room) (sym (lt-leb (length (text r)) (length room) k)) ∙ by_shown true h
-
-  pub accepted : {t : Text} {n : ℕ} → shown r ≡ true → length (text r) ≤ length room → Put room 0 (text r) t n →
-      outcome (record { refusal = Accepted; len = n }) t ≡ writing cap r room
-  accepted {t} {n} h k p =
-      (λ i. outcome (record { refusal = Accepted; len = (p.place ∙ zero-add (length (text r))) i }) ((p.room ∙ overlay_front room (text r) k) i))
-      ∙ ap (λ (b : Bool). fits_or b (text r) room) (sym (le-leb (length (text r)) (length room) k))
-      ∙ by_shown true h
+  pub text_laid : shown r ≡ true → laid_in room (text r) ≡ writing cap r room
+  text_laid h = by_shown true h

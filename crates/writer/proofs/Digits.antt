@@ -1,77 +1,49 @@
--- Digits in decimal: those of n are one digit, or those of n / 10 and one more; how many they are; and how they are put.
-use Prim.Native.Nat.{ℕ, zero, suc, ◌+◌, ◌/◌, ◌%◌, ◌^◌, ◌≤◌, ◌<◌}
-use native.Mathlib.Omega.{arith}
+-- Digits in decimal, before those already written: one digit, or one more before the digits of n / 10; and how many they are.
+use Rattle.std.proofs.Common.{◌≡◌, ℕ, zero, suc, ◌+◌, ◌-◌, ◌/◌, ◌%◌, ◌^◌, ◌<◌, ◌≤◌, Bool, true, false, ◌∷◌, length, length-drop, length-set, take, drop, set, ap, ◌∙◌, refl, arith}
+use Rattle.std.proofs.lemmas.Grind.{drop-set_at}
+use Rattle.std.proofs.lemmas.List.{take_all}
 use native.Mathlib.Nat.{div-add-mod, le_refl, pow-suc}
-use mathlib.Core.Bool.{Bool, true, false, not}
-use mathlib.Core.List.{[], ◌∷◌, ◌++◌}
-use mathlib.Core.Path.{◌≡◌, refl, ap, ◌∙◌}
 use borrow.Author.Tests.{lt-ltb, le-ltb, ltb-true, ltb-false}
-use lib.Dec.{T, ltb, nltb→le}
-use lib.ListN.{length, set, length-append}
+use lib.Dec.{ltb}
 use Rattle.lexis.specs.Text.{Text}
 use Rattle.meaning.specs.Decimal.{digits}
-use Rattle.writer.specs.Room.{Put}
-use Rattle.writer.proofs.Rooms.{◌then◌, byte}
+use Rattle.grammar.specs.Digits.{fuel}
 
-small : (n f : ℕ) → n ≤ suc f → 10 ≤ n → n / 10 ≤ f
-small n f p h = let e = div-add-mod n 10 in omega arith
+pub last : (n : ℕ) (ds : Text) → n < 10 → digits n n ds ≡ (48 + n) ∷ ds
+last zero ds h = refl
+last (suc n) ds h = ap (λ (k : Bool). elim k as (λ _. Text) [ true ↦ (48 + suc n) ∷ ds | false ↦ digits n (suc n / 10) ((48 + suc n % 10) ∷ ds) ]) (lt-ltb (suc n) 10 h)
 
--- the digits already written stay behind
-behind : (f n : ℕ) (ds es : Text) → digits f n (ds ++ es) ≡ digits f n ds ++ es
-behind zero n ds es = refl
-behind (suc f) n ds es = go (ltb n 10) (behind f (n / 10) ((48 + n % 10) ∷ ds) es)
-  where
-    go : (k : Bool) → digits f (n / 10) ((48 + n % 10) ∷ (ds ++ es)) ≡ digits f (n / 10) ((48 + n % 10) ∷ ds) ++ es →
-        ◌≡◌ {A = Text} (elim k [ true ↦ (48 + n) ∷ (ds ++ es) | false ↦ digits f (n / 10) ((48 + n % 10) ∷ (ds ++ es)) ])
-        (elim k as (λ _. Text) [ true ↦ (48 + n) ∷ ds | false ↦ digits f (n / 10) ((48 + n % 10) ∷ ds) ] ++ es)
-    go true e = refl
-    go false e = e
+pub next : (n : ℕ) (ds : Text) → 10 ≤ n → digits n n ds ≡ digits (n / 10) (n / 10) ((48 + n % 10) ∷ ds)
+next zero ds h = let f : ⊥ = omega arith in absurd f
+next (suc n) ds h =
+    let e = div-add-mod (suc n) 10 in
+    ap (λ (k : Bool). elim k as (λ _. Text) [ true ↦ (48 + suc n) ∷ ds | false ↦ digits n (suc n / 10) ((48 + suc n % 10) ∷ ds) ]) (le-ltb (suc n) 10 h)
+    ∙ fuel n (suc n / 10) (suc n / 10) ((48 + suc n % 10) ∷ ds) (omega arith) (le_refl (suc n / 10))
 
--- enough fuel is enough
-fuel : (f g n : ℕ) (ds : Text) → n ≤ f → n ≤ g → digits f n ds ≡ digits g n ds
-fuel zero zero n ds p q = refl
-fuel zero (suc g) n ds p q = let e : n ≡ 0 = omega arith in rw e
-fuel (suc f) zero n ds p q = let e : n ≡ 0 = omega arith in rw e
-fuel (suc f) (suc g) n ds p q = go (ltb n 10) (nltb→le n 10) (λ h. fuel f g (n / 10) ((48 + n % 10) ∷ ds) (small n f p h) (small n g q h))
-  where
-    go : (k : Bool) → (T (not k) → 10 ≤ n) → (10 ≤ n → digits f (n / 10) ((48 + n % 10) ∷ ds) ≡ digits g (n / 10) ((48 + n % 10) ∷ ds)) →
-        ◌≡◌ {A = Text} (elim k [ true ↦ (48 + n) ∷ ds | false ↦ digits f (n / 10) ((48 + n % 10) ∷ ds) ])
-        (elim k [ true ↦ (48 + n) ∷ ds | false ↦ digits g (n / 10) ((48 + n % 10) ∷ ds) ])
-    go true h r = refl
-    go false h r = r (h tt)
-
-pub one : (n : ℕ) → n < 10 → digits n n [] ≡ (48 + n) ∷ []
-one zero h = refl
-one (suc n) h = ap (λ (k : Bool). elim k as (λ _. Text) [ true ↦ (48 + suc n) ∷ [] | false ↦ digits n (suc n / 10) ((48 + suc n % 10) ∷ []) ]) (lt-ltb (suc n) 10 h)
-
-pub more : (n : ℕ) → 10 ≤ n → digits n n [] ≡ digits (n / 10) (n / 10) [] ++ ((48 + n % 10) ∷ [])
-more zero h = let f : ⊥ = omega arith in absurd f
-more (suc n) h =
-    ap (λ (k : Bool). elim k as (λ _. Text) [ true ↦ (48 + suc n) ∷ [] | false ↦ digits n (suc n / 10) ((48 + suc n % 10) ∷ []) ]) (le-ltb (suc n) 10 h)
-    ∙ behind n (suc n / 10) [] ((48 + suc n % 10) ∷ [])
-    ∙ ap (λ (l : Text). l ++ ((48 + suc n % 10) ∷ [])) (fuel n (suc n / 10) (suc n / 10) [] (small (suc n) n (le_refl (suc n)) h) (le_refl (suc n / 10)))
+-- of a number with two digits at least, below a power of ten
+pub tenth : (k n : ℕ) → 10 ≤ n → n < 10 ^ suc k → (1 ≤ k) × (n / 10 < 10 ^ k)
+tenth zero n h l = let f : ⊥ = omega arith in absurd f
+tenth (suc k) n h l =
+    let e = div-add-mod n 10 in
+    let d = pow-suc 10 (suc k) in
+    (omega arith, omega arith)
 
 -- at most k digits below the k-th power of ten
-pub short : (k n : ℕ) → n < 10 ^ suc k → length (digits n n []) ≤ suc k
-short zero n h = rw (one n h) (le_refl 1)
-short (suc k) n h = go (ltb n 10) (ltb-true n 10) (ltb-false n 10) (short k (n / 10))
+pub short : (k n : ℕ) (ds : Text) → n < 10 ^ suc k → length (digits n n ds) ≤ suc k + length ds
+short zero n ds h = rw (last n ds h) (omega arith)
+short (suc k) n ds h = by (ltb n 10) (ltb-true n 10) (ltb-false n 10) (λ p. short k (n / 10) ((48 + n % 10) ∷ ds) (tenth (suc k) n p h).1)
   where
-    go : (b : Bool) → (b ≡ true → n < 10) → (b ≡ false → 10 ≤ n) → (n / 10 < 10 ^ suc k → length (digits (n / 10) (n / 10) []) ≤ suc k) → length (digits n n []) ≤ suc (suc k)
-    go true p q r = rw (one n (p refl)) (omega arith)
-    go false p q r =
-        let e = div-add-mod n 10 in
-        let d = pow-suc 10 (suc k) in
-        let l : n / 10 < 10 ^ suc k = omega arith in
-        rw (more n (q refl), length-append) (omega (arith, r l))
+    by : (b : Bool) → (b ≡ true → n < 10) → (b ≡ false → 10 ≤ n) → (10 ≤ n → length (digits (n / 10) (n / 10) ((48 + n % 10) ∷ ds)) ≤ suc k + suc (length ds)) → length (digits n n ds) ≤ suc (suc k) + length ds
+    by true p q r = rw (last n ds (p refl)) (omega arith)
+    by false p q r = rw (next n ds (q refl)) (omega (arith, r (q refl)))
 
-pub put_one : {s : Text} {a n v : ℕ} → n < 10 → v ≡ 48 + n → Put s a (digits n n []) (set s a v) (a + 1)
-put_one {s} {a} {n} {v} h e = rw (one n h, ← e) (byte s a v)
+-- the digits from place i on, in a room for them: one more in place i, before those behind it
+module _ (text : Text) (i n : ℕ) (h : i < length text) where
+  pub put_next : 10 ≤ n → 1 ≤ i → digits (n / 10) (n / 10) (drop ((i - 1) + 1) (set text i (48 + n % 10))) ≡ digits n n (drop (i + 1) text)
+  put_next p q = rw (drop-set_at text i ((i - 1) + 1) (48 + n % 10) (omega arith) h, next n (drop (i + 1) text) p)
 
-pub put_more : {s t : Text} {a b n v : ℕ} → 10 ≤ n → Put s a (digits (n / 10) (n / 10) []) t b → v ≡ 48 + n % 10 → Put s a (digits n n []) (set t b v) (b + 1)
-put_more {s} {t} {a} {b} {n} {v} h p e = rw (more n h, ← e) (p then byte t b v)
-
-pub room_one : (a n m : ℕ) → n < 10 → a + length (digits n n []) ≤ m → a + 1 ≤ m
-room_one a n m h k = rw (one n h) at k
-
-pub room_more : (a n m : ℕ) → 10 ≤ n → a + length (digits n n []) ≤ m → a + length (digits (n / 10) (n / 10) []) + 1 ≤ m
-room_more a n m h k = let e = length-append (digits (n / 10) (n / 10) []) ((48 + n % 10) ∷ []) in omega (arith, rw (more n h) at k)
+  pub put_last : n < 10 → take (length text - i) (drop i (set text i (48 + n))) ≡ digits n n (drop (i + 1) text)
+  put_last p =
+      let e = drop-set_at text i i (48 + n) refl h in
+      take_all (length text - i) (drop i (set text i (48 + n))) (simp (length-drop, length-set) (omega arith))
+      ∙ rw (e, last n (drop (i + 1) text) p)

@@ -1,66 +1,29 @@
--- Lists put entry after entry: what is left of a list before an entry and after it, over any separator and any entry text.
-use Prim.Native.Nat.{ℕ, zero, suc, ◌+◌, ◌≤◌, ◌<◌}
-use native.Mathlib.Numerals.{add-one}
-use native.Mathlib.Omega.{arith}
-use mathlib.Core.List.{List, [], ◌∷◌, ◌++◌}
-use mathlib.Core.Path.{◌≡◌, refl, ap}
-use lib.IntN.{ℤ, pos}
-use lib.ListN.{length, take, drop, get_or, drop_of_length-le}
-use lib.Seq.{drop-cons}
-use Rattle.lexis.specs.Text.{Text}
-use Rattle.meaning.specs.Strict.{◌⊕◌}
-use Rattle.writer.specs.Room.{Put}
-use Rattle.writer.specs.Flat.{behind, parted, entry, clause64}
-use Rattle.writer.proofs.Rooms.{Left, ◌then◌, nothing, none_left, all_left, left_as, less, ready}
+-- Lists put entry after entry: the room is enough for the next entry; and strides by whether there are any.
+use Rattle.std.proofs.Common.{◌≡◌, ℕ, ◌+◌, ◌<◌, ◌≤◌, true, false, List, [], ◌∷◌, ◌++◌, ℤ, length, get_or, drop, eqb, refl, ap, arith, length-append, append_assoc}
+use Rattle.std.proofs.lemmas.List.{drop_more}
+use Rattle.std.specs.List.{flat_map}
+use Prim.Native.Char.{code}
+use borrow.Author.Tests.{eqb-true, eqb-false}
+use Rattle.lexis.specs.Text.{Text, bytes}
+use Rattle.writer.specs.Flat.{clause, entry, strides_text}
 
-view : (l : List ℤ) (i : ℕ) → i < length l → drop i l ≡ get_or l i (pos 0) ∷ drop (i + 1) l
-view l i h = rw (add-one, drop-cons l i (pos 0))
+-- with s put, entry i of l and those behind it are what is left of t ++ x
+pub next_fits : {A : Type 0} (f : A → Text) (l : List A) (i : ℕ) (d : A) → i < length l → (s t x : Text) (n : ℕ) →
+    s ++ flat_map f (drop i l) ≡ t ++ x → length t + length x ≤ n → length s + length (f (get_or l i d)) ≤ n
+next_fits f l i d h s t x n q r =
+    let e = rw (drop_more l i d h) at (ap length q) in
+    omega (arith, simp length-append at e)
 
-module _ {s t x : Text} {a b : ℕ} (v : ℕ) (f : ℤ → Text) (l : List ℤ) (i : ℕ) (h : i < length l) (k : Left s a x t b (behind (v ∷ []) f (drop i l))) where
-  open_behind : Left s a x t b ((v ∷ []) ++ (f (get_or l i (pos 0)) ++ behind (v ∷ []) f (drop (i + 1) l)))
-  open_behind = left_as (ap (behind (v ∷ []) f) (view l i h)) k
+pub next_put : {A : Type 0} (f : A → Text) (l : List A) (i : ℕ) (d : A) → i < length l → (s y : Text) →
+    s ++ flat_map f (drop i l) ≡ y → (s ++ f (get_or l i d)) ++ flat_map f (drop (i + 1) l) ≡ y
+next_put f l i d h s y q = rw append_assoc (rw (drop_more l i d h) at q)
 
-  pub sep_fits : b + 1 ≤ length t
-  sep_fits = ready (v ∷ []) (f (get_or l i (pos 0)) ++ behind (v ∷ []) f (drop (i + 1) l)) open_behind
+pub no_strides : (l : List ℤ) → eqb (length l) 0 ≡ true → strides_text l ≡ []
+unfolding strides_text
+no_strides [] e = refl
+no_strides (x ∷ l) e = absurd (let n = eqb-true (length (x ∷ l)) 0 e in omega arith)
 
-  pub entry_fits : {u : Text} {c : ℕ} → Put t b (v ∷ []) u c → c + length (f (get_or l i (pos 0))) ≤ length u
-  entry_fits p = ready (f (get_or l i (pos 0))) (behind (v ∷ []) f (drop (i + 1) l)) (less open_behind p)
-
-  pub entry_put : {u w : Text} {c d : ℕ} → Put t b (v ∷ []) u c → Put u c (f (get_or l i (pos 0))) w d → Left s a x w d (behind (v ∷ []) f (drop (i + 1) l))
-  entry_put p q = less (less open_behind p) q
-
-pub behind_done : {s t x : Text} {a b : ℕ} (v : ℕ) (f : ℤ → Text) (l : List ℤ) (i : ℕ) → length l ≤ i → Left s a x t b (behind (v ∷ []) f (drop i l)) → Put s a x t b
-behind_done v f l i h k = none_left (left_as (ap (behind (v ∷ []) f) (drop_of_length-le l h)) k)
-
--- the first entry, and the rest behind it
-pub parted_is : (v : ℕ) (f : ℤ → Text) (l : List ℤ) → 0 < length l → parted (v ∷ []) f l ≡ f (get_or l 0 (pos 0)) ++ behind (v ∷ []) f (drop 1 l)
-parted_is v f [] h = let f : ⊥ = omega arith in absurd f
-parted_is v f (z ∷ l) h = refl
-
-pub parted_none : (v : ℕ) (f : ℤ → Text) (l : List ℤ) (s : Text) (a : ℕ) → length l ≡ 0 → Put s a (parted (v ∷ []) f l) s a
-parted_none v f [] s a h = nothing s a
-parted_none v f (z ∷ l) s a h = let f : ⊥ = omega arith in absurd f
-
-module _ (v : ℕ) (f : ℤ → Text) (l : List ℤ) (h : 0 < length l) where
-  pub first_fits : (s : Text) (a : ℕ) → a + length (parted (v ∷ []) f l) ≤ length s → a + length (f (get_or l 0 (pos 0))) ≤ length s
-  first_fits s a k = ready (f (get_or l 0 (pos 0))) (behind (v ∷ []) f (drop 1 l)) (left_as (parted_is v f l h) (all_left s a (parted (v ∷ []) f l) k))
-
-  pub first_put : {s t : Text} {a b : ℕ} → a + length (parted (v ∷ []) f l) ≤ length s → Put s a (f (get_or l 0 (pos 0))) t b →
-      Left t b (behind (v ∷ []) f (drop 1 l)) t b (behind (v ∷ []) f (drop 1 l))
-  first_put {s} {t} {a} {b} k p = all_left t b (behind (v ∷ []) f (drop 1 l)) (less (left_as (parted_is v f l h) (all_left s a (parted (v ∷ []) f l) k)) p).fits
-
-  pub all_put : {s t u : Text} {a b c : ℕ} → Put s a (f (get_or l 0 (pos 0))) t b → Put t b (behind (v ∷ []) f (drop 1 l)) u c → Put s a (parted (v ∷ []) f l) u c
-  all_put p q = rw (parted_is v f l h) (p then q)
-
--- a clause with no entry is nothing
-module _ (head : Text) (v : ℕ) (l : List ℤ) (tail : Text) where
-  pub no_clause : {n : ℕ} → n ≡ 0 → clause64 head v (take n l) tail ≡ []
-  unfolding clause64
-  no_clause e = ap (λ (n : ℕ). clause64 head v (take n l) tail) e
-
-pub clause_is : (head : Text) (v n : ℕ) (l : List ℤ) (tail : Text) → (n ≡ 0 → ⊥) → n ≤ length l →
-    clause64 head v (take n l) tail ≡ head ⊕ parted (v ∷ []) entry (take n l) ⊕ tail
-unfolding clause64
-clause_is head v zero l tail h k = absurd (h refl)
-clause_is head v (suc n) [] tail h k = let f : ⊥ = omega arith in absurd f
-clause_is head v (suc n) (z ∷ l) tail h k = refl
+pub some_strides : (l : List ℤ) → eqb (length l) 0 ≡ false → strides_text l ≡ clause entry (bytes ", strides=[") (code ",") l (bytes "]")
+unfolding strides_text
+some_strides [] e = absurd (eqb-false 0 0 e refl)
+some_strides (x ∷ l) e = refl

@@ -1,9 +1,6 @@
--- Laws of rooms, numbers, lists and names that the functions' proofs cite; then the theorems on written texts.
-pub mod Rooms
+-- Laws of digits and lists that the functions' proofs cite; then the theorems on written texts.
 pub mod Digits
-pub mod Signs
 pub mod Entries
-pub mod Spans
 pub mod Short
 pub mod Same
 pub mod Opened

@@ -1,7 +1,6 @@
 -- An entry of an array of signed numbers that is a field of a struct is in their range: the array's own predicate says so of each.
 use Prim.Native.Nat.{ℕ, zero, suc, ◌^◌, ◌<◌}
-use mathlib.Core.List.{List, [], ◌∷◌, map, map-id}
-use mathlib.Core.Path.{subst}
+use mathlib.Core.List.{List, [], ◌∷◌}
 use lib.Dec.{lit<}
 use lib.IntN.{ℤ, pos}
 use lib.ListN.{get_or}
@@ -24,9 +23,3 @@ within_64 xs us i p = below w64 (lit< tt) xs us i p
 
 pub within_32 : (xs : List ℤ) (us : List Val) (i : ℕ) → shadow (each ℤ (SInt w32).own_val xs us) → mag (get_or xs i (pos 0)) < 2 ^ 31
 within_32 xs us i p = below w32 (lit< tt) xs us i p
-
-pub below_64 : (xs : List ℤ) (us : List Val) (i : ℕ) → shadow (each ℤ (SInt w64).own_val (map (λ (v : ℤ). v) xs) us) → mag (get_or xs i (pos 0)) < 2 ^ 63
-below_64 xs us i p = below w64 (lit< tt) xs us i (subst (λ (ys : List ℤ). shadow (each ℤ (SInt w64).own_val ys us)) (map-id xs) p)
-
-pub below_32 : (xs : List ℤ) (us : List Val) (i : ℕ) → shadow (each ℤ (SInt w32).own_val (map (λ (v : ℤ). v) xs) us) → mag (get_or xs i (pos 0)) < 2 ^ 31
-below_32 xs us i p = below w32 (lit< tt) xs us i (subst (λ (ys : List ℤ). shadow (each ℤ (SInt w32).own_val ys us)) (map-id xs) p)

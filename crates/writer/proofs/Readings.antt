@@ -11,7 +11,7 @@ use mathlib.Core.List.{List, [], ◌∷◌}
 use mathlib.Core.Path.{◌≡◌, refl, ap, ◌∙◌}
 use lib.Dec.{T, eqb, eqb-suc-zero}
 use lib.IntN.{ℤ, pos}
-use lib.ListN.{length, replicate}
+use lib.ListN.{length, replicate, length-map, length-replicate}
 use Rattle.lexis.specs.Text.{Text, bytes, trim, split, onto_first, less_leading, less_trailing, Cut, nowhere, at, cut}
 use Rattle.scalars.specs.Names.{scalar_name}
 use Rattle.scalars.specs.declared.scalar.Scalar.{Scalar}
@@ -83,8 +83,7 @@ counts zero h = let f : ⊥ = omega arith in absurd f
 counts (suc n) h = rw (eqb-suc-zero n) tt
 
 map_filled : {A B : Type 0} (f : A → B) (l : List A) → 0 < length l → 0 < length (L.map f l)
-map_filled f [] h = h
-map_filled f (x ∷ l) h = zero-lt-suc (length (L.map f l))
+map_filled f l h = rw length-map h
 
 split_filled : (x : ℕ) (s : Text) → 0 < length (split x s)
 split_filled x [] = zero-lt-suc 0
@@ -100,8 +99,7 @@ count_up_filled zero h = h
 count_up_filled (suc n) h = zero-lt-suc (length (W.count_up 1 n))
 
 replicate_filled : (n : ℕ) (z : ℤ) → 0 < n → 0 < length (replicate n z)
-replicate_filled zero z h = h
-replicate_filled (suc n) z h = zero-lt-suc (length (replicate n z))
+replicate_filled n z h = rw length-replicate h
 
 abbrev Full : Clause → Type 0
 Full c = 0 < length (values c)

@@ -8,6 +8,7 @@ use mathlib.Core.List.{List, [], ◌∷◌}
 use lib.Dec.{lit≤}
 use lib.ListN.{length, length-append, take, get_or}
 use lib.IntN.{ℤ, pos, negsuc}
+use Rattle.std.specs.List.{flat_map}
 use lib.Signed.{mag}
 use Rattle.lexis.specs.Text.{Text, bytes}
 use Rattle.scalars.specs.declared.scalar.Scalar.{Scalar}
@@ -20,7 +21,7 @@ use Rattle.meaning.specs.declared.Padding.TheVariants.{Absent, Zero, NegZero, Na
 use Rattle.meaning.specs.Decimal.{decimal, dim, dynamic, known}
 use Rattle.meaning.specs.Strict.{mark}
 use Rattle.meaning.specs.Written.{unknown, shape_in, tile_in, map_in, traversal_in}
-use Rattle.writer.specs.Flat.{word_of, padding_text, entry, behind, parted, clause64, clause32, shaped, body_in, inner_in, lead_text, travel_text, map_text}
+use Rattle.writer.specs.Flat.{word_of, padding_text, entry, before_x, behind, parted, clause, shaped, strides_text, body_in, inner_in, lead_text, travel_text, map_text}
 use Rattle.writer.specs.Flat.{sparse_text, pointer_text, element_text, text, text_as, Small}
 use Rattle.writer.proofs.Digits.{short}
 
@@ -56,12 +57,12 @@ mark_short false = lit≤ tt
 
 -- ── numbers ──
 pub small_short : (z : ℤ) → mag z < 2 ^ 31 → length (decimal z) ≤ 11
-small_short (pos n) h = omega (arith, short 9 n (omega arith))
-small_short (negsuc n) h = omega (arith, short 9 (suc n) (omega arith))
+small_short (pos n) h = omega (arith, short 9 n [] (omega arith))
+small_short (negsuc n) h = omega (arith, short 9 (suc n) [] (omega arith))
 
 pub number_short : (z : ℤ) → mag z < 2 ^ 63 → length (decimal z) ≤ 20
-number_short (pos n) h = omega (arith, short 18 n (omega arith))
-number_short (negsuc n) h = omega (arith, short 18 (suc n) (omega arith))
+number_short (pos n) h = omega (arith, short 18 n [] (omega arith))
+number_short (negsuc n) h = omega (arith, short 18 (suc n) [] (omega arith))
 
 pub entry_short : (z : ℤ) → mag z < 2 ^ 63 → length (entry z) ≤ 20
 entry_short z h = go (unknown z)
@@ -74,38 +75,40 @@ entry_short z h = go (unknown z)
 abbrev pub Below : ℕ → List ℤ → Type 0
 Below k l = (i : ℕ) → mag (get_or l i (pos 0)) < 2 ^ k
 
-module _ (f : ℤ → Text) (b k : ℕ) (s : (z : ℤ) → mag z < 2 ^ b → length (f z) ≤ k) where
-  behind_short : (v n : ℕ) (l : List ℤ) → Below b l → length (behind (v ∷ []) f (take n l)) ≤ (k + 1) * n
-  behind_short v zero l h = zero-le
-  behind_short v (suc n) [] h = zero-le
-  behind_short v (suc n) (z ∷ l) h =
-      let e = mul-suc (k + 1) n in
-      let r = behind_short v n l (λ i. h (suc i)) in
-      let a = length-append (f z) (behind (v ∷ []) f (take n l)) in
-      omega (arith, s z (h 0))
+flat_short : (g : ℤ → Text) (b m : ℕ) → ((z : ℤ) → mag z < 2 ^ b → length (g z) ≤ m) → (n : ℕ) (l : List ℤ) → Below b l → length (flat_map g (take n l)) ≤ m * n
+flat_short g b m s zero l h = zero-le
+flat_short g b m s (suc n) [] h = zero-le
+flat_short g b m s (suc n) (z ∷ l) h =
+    let e = mul-suc m n in
+    let r = flat_short g b m s n l (λ i. h (suc i)) in
+    simp length-append (omega (arith, s z (h 0)))
 
+module _ (f : ℤ → Text) (b k : ℕ) (s : (z : ℤ) → mag z < 2 ^ b → length (f z) ≤ k) where
   -- with no entry there is nothing, and a capacity above zero has room for it
   parted_short : (v n cap : ℕ) (l : List ℤ) → n ≤ cap → 1 ≤ cap → Below b l → length (parted (v ∷ []) f (take n l)) + 1 ≤ (k + 1) * cap
   parted_short v zero cap l p q h = omega (arith, mul-le-mul_left (k + 1) q)
   parted_short v (suc n) cap [] p q h = omega (arith, mul-le-mul_left (k + 1) q)
   parted_short v (suc n) cap (z ∷ l) p q h =
       let e = mul-suc (k + 1) n in
-      let r = behind_short v n l (λ i. h (suc i)) in
+      let r = flat_short (λ (z : ℤ). v ∷ f z) b (k + 1) (λ z p. omega (arith, s z p)) n l (λ i. h (suc i)) in
       let a = length-append (f z) (behind (v ∷ []) f (take n l)) in
       omega (arith, s z (h 0), mul-le-mul_left (k + 1) p)
 
-module _ (head : Text) (v : ℕ) (tail : Text) (n cap : ℕ) (l : List ℤ) (p : n ≤ cap) (q : 1 ≤ cap) where
-  clause64_short : Below 63 l → length (clause64 head v (take n l) tail) + 1 ≤ 21 * cap + length head + length tail
-  unfolding clause64
-  clause64_short h = by (take n l) (parted_short entry 63 20 entry_short v n cap l p q h)
-    where
-      by : (k : List ℤ) → length (parted (v ∷ []) entry k) + 1 ≤ 21 * cap → length (clause64 head v k tail) + 1 ≤ 21 * cap + length head + length tail
-      by [] e = omega arith
-      by (z ∷ k) e = simp length-append (omega (arith, length-append (entry z) (behind (v ∷ []) entry k)))
+strides_short : (n cap : ℕ) (l : List ℤ) → n ≤ cap → 1 ≤ cap → Below 63 l → length (strides_text (take n l)) ≤ 21 * cap + 11
+unfolding clause strides_text
+strides_short n cap l p q h = by (take n l) (parted_short entry 63 20 entry_short 44 n cap l p q h)
+  where
+    by : (k : List ℤ) → length (parted (44 ∷ []) entry k) + 1 ≤ 21 * cap → length (strides_text k) ≤ 21 * cap + 11
+    by [] e = omega arith
+    by (z ∷ k) e = simp length-append (omega (arith, length-append (entry z) (behind (44 ∷ []) entry k)))
 
-  clause32_short : Below 31 l → length (clause32 head v (take n l) tail) + 1 ≤ 12 * cap + length head + length tail
-  unfolding clause32
-  clause32_short h = simp length-append (omega (arith, parted_short decimal 31 11 small_short v n cap l p q h))
+clause_short : (head : Text) (v : ℕ) (tail : Text) (n cap : ℕ) (l : List ℤ) → n ≤ cap → 1 ≤ cap → Below 31 l → length (clause decimal head v (take n l) tail) + 1 ≤ 12 * cap + length head + length tail
+unfolding clause
+clause_short head v tail n cap l p q h = simp length-append (omega (arith, parted_short decimal 31 11 small_short v n cap l p q h))
+
+shaped_short : (n : ℕ) (l : List ℤ) → Below 63 l → length (shaped (take n l)) ≤ 21 * n
+unfolding shaped
+shaped_short n l h = flat_short before_x 63 21 (λ z p. simp length-append (omega (arith, entry_short z p))) n l h
 
 -- ── the record ──
 pub record Ranged (r : Record) : Type 0 where
@@ -118,14 +121,14 @@ pub record Ranged (r : Record) : Type 0 where
 
 module _ (cap : ℕ) (one : 1 ≤ cap) (r : Record) (s : Small cap r) (g : Ranged r) where
   shape_short : length (shaped (shape_in r)) ≤ 21 * cap
-  shape_short = omega (arith, clause64_short [] 120 (bytes "x") r.shape_len cap r.shape s.shape one g.shape)
+  shape_short = omega (arith, shaped_short r.shape_len r.shape g.shape, mul-le-mul_left 21 s.shape)
 
   pub body_short : length (body_in r) ≤ 42 * cap + 47
   unfolding body_in
   body_short = simp length-append (omega (
     arith,
     shape_short,
-    clause64_short (bytes ", strides=[") 44 (bytes "]") r.strides_len cap r.strides s.strides one g.strides,
+    strides_short r.strides_len cap r.strides s.strides one g.strides,
     word_short r.element,
     mark_short r.attribute,
   ))
@@ -135,13 +138,13 @@ module _ (cap : ℕ) (one : 1 ≤ cap) (r : Record) (s : Small cap r) (g : Range
   inner_short = simp length-append (omega (arith, body_short, pad_short r.padding))
 
   lead_short : length (lead_text (tile_in r)) ≤ 12 * cap + 8
-  lead_short = omega (arith, clause32_short (bytes "tile=(") 120 (bytes "), ") r.tile_len cap r.tile s.tile one g.tile)
+  lead_short = omega (arith, clause_short (bytes "tile=(") 120 (bytes "), ") r.tile_len cap r.tile s.tile one g.tile)
 
   travel_short : length (travel_text (traversal_in r)) ≤ 12 * cap + 21
-  travel_short = omega (arith, clause32_short (bytes "traversal_strides=[") 44 (bytes "], ") r.traversal_len cap r.traversal s.traversal one g.traversal)
+  travel_short = omega (arith, clause_short (bytes "traversal_strides=[") 44 (bytes "], ") r.traversal_len cap r.traversal s.traversal one g.traversal)
 
   map_short : length (map_text (map_in r)) ≤ 12 * cap + 10
-  map_short = omega (arith, clause32_short (bytes "dim_map=[") 44 (bytes "]>") r.map_len cap r.map s.map one g.map)
+  map_short = omega (arith, clause_short (bytes "dim_map=[") 44 (bytes "]>") r.map_len cap r.map s.map one g.map)
 
   sparse_short : length (sparse_text r.sparse) ≤ 23
   unfolding sparse_text

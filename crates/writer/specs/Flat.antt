@@ -1,6 +1,7 @@
 -- For the private contracts: the written text built without its form, one part behind the other, and which records have one.
 -- Where a caller puts a text as one part, its definition is `unfoldable`.
 use Rattle.std.specs.Prelude.{ℕ, ◌≤◌, Bool, true, false, ◌&&◌, ◌||◌, not, List, [], ◌∷◌, ◌≡◌, eqb, ℤ, length}
+use Rattle.std.specs.List.{flat_map}
 use Prim.Native.Char.{code}
 use Rattle.lexis.specs.Text.{Text, bytes}
 use Rattle.scalars.specs.declared.scalar.Scalar.{Scalar}
@@ -13,33 +14,34 @@ use Rattle.meaning.specs.Strict as S
 use Rattle.meaning.specs.Strict.{◌⊕◌}
 use Rattle.meaning.specs.Written.{first, pads_of, dimension_of, shape_in, strides_in, tile_in, map_in, traversal_in}
 
--- ── lists: each further entry behind a separator; each entry before an `x` ──
+-- ── lists ──
 
-abbrev pub behind : Text → (ℤ → Text) → List ℤ → Text
-behind sep f [] = []
-behind sep f (z ∷ zs) = sep ⊕ f z ⊕ behind sep f zs
+-- each entry behind a separator
+abbrev pub behind : {A : Type 0} → Text → (A → Text) → List A → Text
+behind sep f l = flat_map (λ e. sep ⊕ f e) l
 
-abbrev pub parted : Text → (ℤ → Text) → List ℤ → Text
+-- each further entry behind one
+abbrev pub parted : {A : Type 0} → Text → (A → Text) → List A → Text
 parted sep f [] = []
-parted sep f (z ∷ zs) = f z ⊕ behind sep f zs
+parted sep f (e ∷ l) = f e ⊕ behind sep f l
+
+-- a list between two texts
+unfoldable pub clause : {A : Type 0} → (A → Text) → Text → ℕ → List A → Text → Text
+clause f head sep l tail = head ⊕ parted (sep ∷ []) f l ⊕ tail
 
 abbrev pub entry : ℤ → Text
 entry z = dim (dimension_of z)
 
--- a list of 64-bit numbers between two texts, or nothing where it is empty
-unfoldable pub clause64 : Text → ℕ → List ℤ → Text → Text
-clause64 head sep [] tail = []
-clause64 head sep (z ∷ zs) tail = head ⊕ parted (sep ∷ []) entry (z ∷ zs) ⊕ tail
+abbrev pub before_x : ℤ → Text
+before_x z = entry z ⊕ bytes "x"
 
--- a list of 32-bit numbers between two texts
-unfoldable pub clause32 : Text → ℕ → List ℤ → Text → Text
-clause32 head sep zs tail = head ⊕ parted (sep ∷ []) decimal zs ⊕ tail
+unfoldable pub shaped : List ℤ → Text
+shaped zs = flat_map before_x zs
 
-abbrev pub shaped : List ℤ → Text
-shaped zs = clause64 [] (code "x") zs (bytes "x")
-
-abbrev pub strides_text : List ℤ → Text
-strides_text zs = clause64 (bytes ", strides=[") (code ",") zs (bytes "]")
+-- nothing where there are none
+unfoldable pub strides_text : List ℤ → Text
+strides_text [] = []
+strides_text (z ∷ zs) = clause entry (bytes ", strides=[") (code ",") (z ∷ zs) (bytes "]")
 
 abbrev pub word_of : Scalar → Text
 word_of e = S.word (first e)
@@ -54,13 +56,13 @@ abbrev pub padding_text : Padding → Text
 padding_text p = S.pad_text (pads_of p)
 
 abbrev pub lead_text : List ℤ → Text
-lead_text ts = clause32 (bytes "tile=(") (code "x") ts (bytes "), ")
+lead_text ts = clause decimal (bytes "tile=(") (code "x") ts (bytes "), ")
 
 abbrev pub travel_text : List ℤ → Text
-travel_text ts = clause32 (bytes "traversal_strides=[") (code ",") ts (bytes "], ")
+travel_text ts = clause decimal (bytes "traversal_strides=[") (code ",") ts (bytes "], ")
 
 abbrev pub map_text : List ℤ → Text
-map_text ms = clause32 (bytes "dim_map=[") (code ",") ms (bytes "]>")
+map_text ms = clause decimal (bytes "dim_map=[") (code ",") ms (bytes "]>")
 
 unfoldable pub sparse_text : ℤ → Text
 sparse_text z = bytes "sparse_dim=" ⊕ decimal z ⊕ bytes ">"
@@ -75,16 +77,6 @@ inner_in r = padding_text r.padding ⊕ bytes "tensor_view<" ⊕ body_in r ⊕ b
 abbrev pub element_text : Bool → Scalar → Bool → Text
 element_text true e m = pointer_text e m
 element_text false e m = word_of e
-
--- a strided view's traversal strides; in the other views nothing
-abbrev pub travel_when : Bool → Record → Text
-travel_when true r = travel_text (traversal_in r)
-travel_when false r = []
-
--- a gather/scatter view's sparse dimension; in the other views the map
-abbrev pub last_when : Bool → Record → Text
-last_when true r = sparse_text r.sparse
-last_when false r = map_text (map_in r)
 
 abbrev pub head_as : Kind → Text
 head_as K.Scalar = []
@@ -102,18 +94,15 @@ tile_text r = shaped (shape_in r) ⊕ element_text r.pointer r.element r.attribu
 abbrev pub tensor_text : Record → Text
 tensor_text r = body_in r ⊕ bytes ">"
 
-abbrev pub view_text : Bool → Bool → Record → Text
-view_text strided gather r = lead_text (tile_in r) ⊕ travel_when strided r ⊕ inner_in r ⊕ last_when gather r
-
 -- what stands behind the head
 abbrev pub rest_as : Kind → Record → Text
 rest_as K.Scalar r = word_of r.element
 rest_as K.Pointer r = pointer_text r.element r.attribute
 rest_as K.Tile r = tile_text r
 rest_as K.TensorView r = tensor_text r
-rest_as K.Partition r = view_text false false r
-rest_as K.GatherScatter r = view_text false true r
-rest_as K.Strided r = view_text true false r
+rest_as K.Partition r = lead_text (tile_in r) ⊕ inner_in r ⊕ map_text (map_in r)
+rest_as K.GatherScatter r = lead_text (tile_in r) ⊕ inner_in r ⊕ sparse_text r.sparse
+rest_as K.Strided r = lead_text (tile_in r) ⊕ travel_text (traversal_in r) ⊕ inner_in r ⊕ map_text (map_in r)
 rest_as K.Token r = []
 
 abbrev pub text_as : Kind → Record → Text

@@ -1,4 +1,2 @@
 -- For the private contracts: rooms that bytes are put into, and the written text built without its form.
-pub mod Room
 pub mod Flat
-pub mod Held

@@ -5,18 +5,17 @@ ghost use Rattle.writer.specs.Flat.{strides_fine, shown};
 use meaning::{Kind, Record};
 
 // Empty strides have a text with an empty shape only.
-fn strides_ok(r: Record) -> bool
-    ensures { result ≡ strides_fine r }
+fn strides_ok(r: &Record) -> bool
+    ensures { result ≡ strides_fine r.now }
 {
     (r.strides_len != 0) | (r.shape_len == 0)
 }
 
 // An attribute on a scalar, scalar tile or token has no text, nor has an empty list that must stand.
-pub(crate) fn has_text(r: Record) -> bool
-    ensures { result ≡ shown r }
+pub(crate) fn has_text(r: &Record) -> bool
+    ensures { result ≡ shown r.now }
 {
-    let kind = r.kind;
-    match kind {
+    match r.kind {
         Kind::Scalar => !r.attribute,
         Kind::Pointer => true,
         Kind::Tile => r.pointer | !r.attribute,

@@ -2,6 +2,7 @@
 #![tactic(auto)]
 
 mod call;
+mod fit;
 mod has_text;
 mod lists;
 mod names;

@@ -1,84 +1,65 @@
 // Lists put entry after entry.
-ghost use Rattle.std.specs.Prelude.{List, [], ◌∷◌, ℕ, ◌+◌, ◌≤◌, length, take};
+ghost use Rattle.std.specs.Prelude.{◌≡◌, List, [], ◌∷◌, ◌++◌, ℕ, ◌+◌, ◌≤◌, length};
 ghost use Rattle.meaning.specs.Decimal.{decimal};
-ghost use Rattle.writer.specs.Room.{Put};
-ghost use Rattle.writer.specs.Flat.{entry, parted, clause32, clause64};
+ghost use Rattle.writer.specs.Flat.{entry, parted, clause};
 
-use super::put::{put_byte, put_bytes, put_dim, put_small};
+use super::put::{Draft, LONGEST};
 
-// The entries of a list of 64-bit numbers, with `sep` between.
-fn put_dims(out: &mut [u8], at: usize, l: &[i64], sep: u8) -> usize
-    requires { at + length (parted (sep ∷ []) entry l.now) ≤ length out.old }
-    ensures { Put out.old at (parted (sep ∷ []) entry l.now) out.new result }
-{
-    if l.len() == 0 {
-        return at;
-    }
-    let mut m = put_dim(out, at, l[0]);
-    let mut i = 1;
-    while i < l.len() {
-        m = put_byte(out, m, sep);
-        m = put_dim(out, m, l[i]);
-        i += 1;
-    }
-    m
+// The number of an entry that isn't known, written `?`.
+const DYNAMIC: i64 = i64::MIN;
+
+// An entry of a list, and its text.
+pub(crate) trait Entry: Copy {
+    ghost text: { Self → List ℕ };
+
+    fn put(self, out: &mut Draft)
+        requires { length out.old + length (text self) ≤ LONGEST }
+        ensures { out.new ≡ out.old ++ text self };
 }
 
-// The entries of a list of 32-bit numbers, with `sep` between.
-fn put_list(out: &mut [u8], at: usize, l: &[i32], sep: u8) -> usize
-    requires { at + length (parted (sep ∷ []) decimal l.now) ≤ length out.old }
-    ensures { Put out.old at (parted (sep ∷ []) decimal l.now) out.new result }
-{
-    if l.len() == 0 {
-        return at;
+// An entry of a shape or of strides.
+impl Entry for i64 {
+    ghost text = { entry };
+
+    fn put(self, out: &mut Draft) {
+        if self == DYNAMIC {
+            return out.put_byte(b'?');
+        }
+        out.put_number(self);
     }
-    let mut m = put_small(out, at, l[0]);
-    let mut i = 1;
-    while i < l.len() {
-        m = put_byte(out, m, sep);
-        m = put_small(out, m, l[i]);
-        i += 1;
-    }
-    m
 }
 
-// The first `n` entries of `l` between `head` and `tail`, or nothing where there are none.
-pub(crate) fn put_clause64(
-    out: &mut [u8],
-    at: usize,
-    head: &[u8],
-    l: [i64; 8],
-    n: usize,
-    sep: u8,
-    tail: &[u8],
-) -> usize
-    requires n_bound { n ≤ 8 }
-    requires tail_in_bounds { at + length (clause64 head.now sep (take n l) tail.now) ≤ length out.old }
-    ensures { Put out.old at (clause64 head.now sep (take n l) tail.now) out.new result }
-{
-    if n == 0 {
-        return at;
+impl Entry for i32 {
+    ghost text = { decimal };
+
+    fn put(self, out: &mut Draft) {
+        out.put_number(i64::from(self));
     }
-    let a = put_bytes(out, at, head);
-    let b = put_dims(out, a, &l[..n], sep);
-    put_bytes(out, b, tail)
 }
 
-// The first `n` entries of `l` between `head` and `tail`.
-pub(crate) fn put_clause32(
-    out: &mut [u8],
-    at: usize,
-    head: &[u8],
-    l: [i32; 8],
-    n: usize,
-    sep: u8,
-    tail: &[u8],
-) -> usize
-    requires n_bound { n ≤ 8 }
-    requires tail_in_bounds { at + length (clause32 head.now sep (take n l) tail.now) ≤ length out.old }
-    ensures { Put out.old at (clause32 head.now sep (take n l) tail.now) out.new result }
-{
-    let a = put_bytes(out, at, head);
-    let b = put_list(out, a, &l[..n], sep);
-    put_bytes(out, b, tail)
+impl Draft {
+    // The entries of `l`, with `sep` between.
+    fn put_entries<E: Entry>(&mut self, l: &[E], sep: u8)
+        requires { length self.old + length (parted (sep ∷ []) E.text l.now) ≤ LONGEST }
+        ensures { self.new ≡ self.old ++ parted (sep ∷ []) E.text l.now }
+    {
+        if let [first, rest @ ..] = l {
+            first.put(self);
+            for e in rest {
+                self.put_byte(sep);
+                e.put(self);
+            }
+        }
+    }
+
+    // The entries of `l` between `head` and `tail`.
+    #[tactic(auto, unfolding(crate::specs::Flat::clause))]
+    pub(crate) fn put_clause<E: Entry>(&mut self, head: &[u8], l: &[E], sep: u8, tail: &[u8])
+        requires { length self.old + length (clause E.text head.now sep l.now tail.now) ≤ LONGEST }
+        ensures { self.new ≡ self.old ++ clause E.text head.now sep l.now tail.now }
+    {
+        self.put_bytes(head);
+        self.put_entries(l, sep);
+        self.put_bytes(tail);
+    }
 }

@@ -1,150 +1,127 @@
 // The parts of a text, put one behind the other.
-ghost use Rattle.std.specs.Prelude.{ℕ, ◌+◌, ◌≤◌, length};
+ghost use Rattle.std.specs.Prelude.{◌≡◌, ◌++◌, ℕ, ◌+◌, ◌≤◌, length};
 ghost use Rattle.meaning.specs.Strict.{mark};
-ghost use Rattle.writer.specs.Room.{Put};
-ghost use Rattle.meaning.specs.Written.{shape_in, strides_in, tile_in};
-ghost use Rattle.writer.specs.Flat.{Small, body_in, inner_in, pointer_text, element_text, shaped, strides_text, lead_text, travel_when, sparse_text, last_when};
+ghost use Rattle.meaning.specs.Written.{shape_in, strides_in, tile_in, map_in, traversal_in};
+ghost use Rattle.writer.specs.Flat.{body_in, inner_in, pointer_text, element_text, shaped, strides_text, lead_text, travel_text, map_text, sparse_text};
 
-use super::lists::{put_clause32, put_clause64};
-use super::names::{put_padding, put_scalar};
-use super::put::{put_byte, put_bytes, put_small};
-use meaning::Record;
+use super::fit::Fit;
+use super::lists::Entry;
+use super::names::{padding_clause, scalar_name};
+use super::put::{Draft, LONGEST};
 use scalars::Scalar;
 
-// The mark, or nothing.
-fn put_mark(out: &mut [u8], at: usize, attribute: bool) -> usize
-    requires { at + length (mark attribute) ≤ length out.old }
-    ensures { Put out.old at (mark attribute) out.new result }
-{
-    if attribute {
-        return put_bytes(out, at, b", #cuda_tile.ptr_attr<none>");
+impl Draft {
+    // The mark, or nothing.
+    fn put_mark(&mut self, attribute: bool)
+        requires { length self.old + length (mark attribute) ≤ LONGEST }
+        ensures { self.new ≡ self.old ++ mark attribute }
+    {
+        if attribute {
+            self.put_bytes(b", #cuda_tile.ptr_attr<none>");
+        }
     }
-    at
-}
 
-// A shape, with an `x` behind each entry.
-pub(crate) fn put_shape(out: &mut [u8], at: usize, r: Record) -> usize
-    requires small { Small 8 r }
-    requires r_in_bounds { at + length (shaped (shape_in r)) ≤ length out.old }
-    ensures { Put out.old at (shaped (shape_in r)) out.new result }
-{
-    let l = r.shape;
-    put_clause64(out, at, b"", l, r.shape_len, b'x', b"x")
-}
-
-// `, strides=[..]`, or nothing.
-fn put_strides(out: &mut [u8], at: usize, r: Record) -> usize
-    requires small { Small 8 r }
-    requires r_in_bounds { at + length (strides_text (strides_in r)) ≤ length out.old }
-    ensures { Put out.old at (strides_text (strides_in r)) out.new result }
-{
-    let l = r.strides;
-    put_clause64(out, at, b", strides=[", l, r.strides_len, b',', b"]")
-}
-
-// What stands in a tensor view's brackets.
-pub(crate) fn put_body(out: &mut [u8], at: usize, r: Record) -> usize
-    requires small { Small 8 r }
-    requires r_in_bounds { at + length (body_in r) ≤ length out.old }
-    ensures { Put out.old at (body_in r) out.new result }
-{
-    let element = r.element;
-    let a = put_shape(out, at, r);
-    let b = put_scalar(out, a, element);
-    let d = put_strides(out, b, r);
-    put_mark(out, d, r.attribute)
-}
-
-// A pointer, with the prefix.
-pub(crate) fn put_pointer(out: &mut [u8], at: usize, e: Scalar, attribute: bool) -> usize
-    requires { at + length (pointer_text e attribute) ≤ length out.old }
-    ensures { Put out.old at (pointer_text e attribute) out.new result }
-{
-    let a = put_bytes(out, at, b"!cuda_tile.ptr<");
-    let b = put_scalar(out, a, e);
-    let d = put_mark(out, b, attribute);
-    put_byte(out, d, b'>')
-}
-
-// A view's tile shape, with `x` between.
-pub(crate) fn put_lead(out: &mut [u8], at: usize, r: Record) -> usize
-    requires small { Small 8 r }
-    requires r_in_bounds { at + length (lead_text (tile_in r)) ≤ length out.old }
-    ensures { Put out.old at (lead_text (tile_in r)) out.new result }
-{
-    let l = r.tile;
-    put_clause32(out, at, b"tile=(", l, r.tile_len, b'x', b"), ")
-}
-
-// A strided view's traversal strides; in the other views nothing.
-pub(crate) fn put_travel(out: &mut [u8], at: usize, r: Record, strided: bool) -> usize
-    requires small { Small 8 r }
-    requires r_in_bounds { at + length (travel_when strided r) ≤ length out.old }
-    ensures { Put out.old at (travel_when strided r) out.new result }
-{
-    if strided {
-        let l = r.traversal;
-        return put_clause32(
-            out,
-            at,
-            b"traversal_strides=[",
-            l,
-            r.traversal_len,
-            b',',
-            b"], ",
-        );
+    // A shape, with an `x` behind each entry.
+    #[tactic(auto, unfolding(crate::specs::Flat::shaped))]
+    pub(crate) fn put_shape(&mut self, v: Fit)
+        requires { length self.old + length (shaped (shape_in v.r.now)) ≤ LONGEST }
+        ensures { self.new ≡ self.old ++ shaped (shape_in v.entry.r.now) }
+    {
+        for z in v.shape() {
+            z.put(self);
+            self.put_byte(b'x');
+        }
     }
-    at
-}
 
-fn put_sparse(out: &mut [u8], at: usize, r: Record) -> usize
-    requires { at + length (sparse_text r.sparse) ≤ length out.old }
-    ensures { Put out.old at (sparse_text r.sparse) out.new result }
-{
-    let a = put_bytes(out, at, b"sparse_dim=");
-    let b = put_small(out, a, r.sparse);
-    put_byte(out, b, b'>')
-}
-
-// A gather/scatter view's sparse dimension, in the other views the map; and the `>` that closes the view.
-pub(crate) fn put_last(out: &mut [u8], at: usize, r: Record, gather: bool) -> usize
-    requires small { Small 8 r }
-    requires r_in_bounds { at + length (last_when gather r) ≤ length out.old }
-    ensures { Put out.old at (last_when gather r) out.new result }
-{
-    if gather {
-        return put_sparse(out, at, r);
+    // `, strides=[..]`, or nothing.
+    fn put_strides(&mut self, v: Fit)
+        requires { length self.old + length (strides_text (strides_in v.r.now)) ≤ LONGEST }
+        ensures { self.new ≡ self.old ++ strides_text (strides_in v.entry.r.now) }
+    {
+        let l = v.strides();
+        if !l.is_empty() {
+            self.put_clause(b", strides=[", l, b',', b"]");
+        }
     }
-    let l = r.map;
-    put_clause32(out, at, b"dim_map=[", l, r.map_len, b',', b"]>")
-}
 
-// A tile's element.
-pub(crate) fn put_element(
-    out: &mut [u8],
-    at: usize,
-    pointer: bool,
-    e: Scalar,
-    attribute: bool,
-) -> usize
-    requires { at + length (element_text pointer e attribute) ≤ length out.old }
-    ensures { Put out.old at (element_text pointer e attribute) out.new result }
-{
-    if pointer {
-        return put_pointer(out, at, e, attribute);
+    // What stands in a tensor view's brackets.
+    #[tactic(auto, unfolding(crate::specs::Flat::body_in))]
+    pub(crate) fn put_body(&mut self, v: Fit)
+        requires { length self.old + length (body_in v.r.now) ≤ LONGEST }
+        ensures { self.new ≡ self.old ++ body_in v.entry.r.now }
+    {
+        self.put_shape(v);
+        self.put_bytes(scalar_name(v.r.element));
+        self.put_strides(v);
+        self.put_mark(v.r.attribute);
     }
-    put_scalar(out, at, e)
-}
 
-// Padding and tensor view.
-pub(crate) fn put_inner(out: &mut [u8], at: usize, r: Record) -> usize
-    requires small { Small 8 r }
-    requires r_in_bounds { at + length (inner_in r) ≤ length out.old }
-    ensures { Put out.old at (inner_in r) out.new result }
-{
-    let padding = r.padding;
-    let a = put_padding(out, at, padding);
-    let b = put_bytes(out, a, b"tensor_view<");
-    let d = put_body(out, b, r);
-    put_bytes(out, d, b">, ")
+    // A pointer, with the prefix.
+    pub(crate) fn put_pointer(&mut self, e: Scalar, attribute: bool)
+        requires { length self.old + length (pointer_text e attribute) ≤ LONGEST }
+        ensures { self.new ≡ self.old ++ pointer_text e attribute }
+    {
+        self.put_bytes(b"!cuda_tile.ptr<");
+        self.put_bytes(scalar_name(e));
+        self.put_mark(attribute);
+        self.put_byte(b'>');
+    }
+
+    // A view's tile shape, with `x` between.
+    pub(crate) fn put_lead(&mut self, v: Fit)
+        requires { length self.old + length (lead_text (tile_in v.r.now)) ≤ LONGEST }
+        ensures { self.new ≡ self.old ++ lead_text (tile_in v.entry.r.now) }
+    {
+        self.put_clause(b"tile=(", v.tile(), b'x', b"), ");
+    }
+
+    // A strided view's traversal strides.
+    pub(crate) fn put_travel(&mut self, v: Fit)
+        requires { length self.old + length (travel_text (traversal_in v.r.now)) ≤ LONGEST }
+        ensures { self.new ≡ self.old ++ travel_text (traversal_in v.entry.r.now) }
+    {
+        self.put_clause(b"traversal_strides=[", v.traversal(), b',', b"], ");
+    }
+
+    // A gather/scatter view's sparse dimension, and the `>` that closes the view.
+    #[tactic(auto, unfolding(crate::specs::Flat::sparse_text))]
+    pub(crate) fn put_sparse(&mut self, sparse: i32)
+        requires { length self.old + length (sparse_text sparse) ≤ LONGEST }
+        ensures { self.new ≡ self.old ++ sparse_text sparse }
+    {
+        self.put_bytes(b"sparse_dim=");
+        sparse.put(self);
+        self.put_byte(b'>');
+    }
+
+    // The other views' map, and the `>` that closes the view.
+    pub(crate) fn put_map(&mut self, v: Fit)
+        requires { length self.old + length (map_text (map_in v.r.now)) ≤ LONGEST }
+        ensures { self.new ≡ self.old ++ map_text (map_in v.entry.r.now) }
+    {
+        self.put_clause(b"dim_map=[", v.map(), b',', b"]>");
+    }
+
+    // A tile's element.
+    pub(crate) fn put_element(&mut self, pointer: bool, e: Scalar, attribute: bool)
+        requires { length self.old + length (element_text pointer e attribute) ≤ LONGEST }
+        ensures { self.new ≡ self.old ++ element_text pointer e attribute }
+    {
+        if pointer {
+            return self.put_pointer(e, attribute);
+        }
+        self.put_bytes(scalar_name(e));
+    }
+
+    // Padding and tensor view.
+    #[tactic(auto, unfolding(crate::specs::Flat::inner_in))]
+    pub(crate) fn put_inner(&mut self, v: Fit)
+        requires { length self.old + length (inner_in v.r.now) ≤ LONGEST }
+        ensures { self.new ≡ self.old ++ inner_in v.entry.r.now }
+    {
+        self.put_bytes(padding_clause(v.r.padding));
+        self.put_bytes(b"tensor_view<");
+        self.put_body(v);
+        self.put_bytes(b">, ");
+    }
 }

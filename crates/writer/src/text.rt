@@ -1,73 +1,67 @@
 // The text of each kind of record, put part by part.
-ghost use Rattle.std.specs.Prelude.{ℕ, ◌+◌, ◌≤◌, length};
-ghost use Rattle.writer.specs.Room.{Put};
-ghost use Rattle.writer.specs.Flat.{Small, tile_text, tensor_text, view_text, rest_as, text};
+ghost use Rattle.std.specs.Prelude.{◌≡◌, ◌++◌, ℕ, ◌+◌, ◌≤◌, length};
+ghost use Rattle.writer.specs.Flat.{tile_text, tensor_text, rest_as, text};
 
-use super::names::{put_head, put_scalar};
-use super::parts::{
-    put_body, put_element, put_inner, put_last, put_lead, put_pointer, put_shape, put_travel,
-};
-use super::put::put_byte;
-use meaning::{Kind, Record};
+use super::fit::Fit;
+use super::names::{head, scalar_name};
+use super::put::{Draft, LONGEST};
+use meaning::Kind;
 
-fn put_tile(out: &mut [u8], at: usize, r: Record) -> usize
-    requires small { Small 8 r }
-    requires r_in_bounds { at + length (tile_text r) ≤ length out.old }
-    ensures { Put out.old at (tile_text r) out.new result }
-{
-    let element = r.element;
-    let a = put_shape(out, at, r);
-    let b = put_element(out, a, r.pointer, element, r.attribute);
-    put_byte(out, b, b'>')
-}
-
-fn put_tensor(out: &mut [u8], at: usize, r: Record) -> usize
-    requires small { Small 8 r }
-    requires r_in_bounds { at + length (tensor_text r) ≤ length out.old }
-    ensures { Put out.old at (tensor_text r) out.new result }
-{
-    let a = put_body(out, at, r);
-    put_byte(out, a, b'>')
-}
-
-fn put_view(out: &mut [u8], at: usize, r: Record, strided: bool, gather: bool) -> usize
-    requires small { Small 8 r }
-    requires r_in_bounds { at + length (view_text strided gather r) ≤ length out.old }
-    ensures { Put out.old at (view_text strided gather r) out.new result }
-{
-    let a = put_lead(out, at, r);
-    let b = put_travel(out, a, r, strided);
-    let d = put_inner(out, b, r);
-    put_last(out, d, r, gather)
-}
-
-// What stands behind the head, by the kind.
-fn put_rest(out: &mut [u8], at: usize, r: Record) -> usize
-    requires small { Small 8 r }
-    requires r_in_bounds { at + length (rest_as r.kind r) ≤ length out.old }
-    ensures { Put out.old at (rest_as r.kind r) out.new result }
-{
-    let kind = r.kind;
-    let element = r.element;
-    match kind {
-        Kind::Scalar => put_scalar(out, at, element),
-        Kind::Pointer => put_pointer(out, at, element, r.attribute),
-        Kind::Tile => put_tile(out, at, r),
-        Kind::TensorView => put_tensor(out, at, r),
-        Kind::Partition => put_view(out, at, r, false, false),
-        Kind::GatherScatter => put_view(out, at, r, false, true),
-        Kind::Strided => put_view(out, at, r, true, false),
-        Kind::Token => at,
+impl Draft {
+    fn put_tile(&mut self, v: Fit)
+        requires { length self.old + length (tile_text v.r.now) ≤ LONGEST }
+        ensures { self.new ≡ self.old ++ tile_text v.entry.r.now }
+    {
+        self.put_shape(v);
+        self.put_element(v.r.pointer, v.r.element, v.r.attribute);
+        self.put_byte(b'>');
     }
-}
 
-// The text of `r`.
-pub(crate) fn put_text(out: &mut [u8], at: usize, r: Record) -> usize
-    requires small { Small 8 r }
-    requires r_in_bounds { at + length (text r) ≤ length out.old }
-    ensures { Put out.old at (text r) out.new result }
-{
-    let k = r.kind;
-    let a = put_head(out, at, k);
-    put_rest(out, a, r)
+    fn put_tensor(&mut self, v: Fit)
+        requires { length self.old + length (tensor_text v.r.now) ≤ LONGEST }
+        ensures { self.new ≡ self.old ++ tensor_text v.entry.r.now }
+    {
+        self.put_body(v);
+        self.put_byte(b'>');
+    }
+
+    // What stands behind the head, by the kind.
+    fn put_rest(&mut self, v: Fit)
+        requires { length self.old + length (rest_as v.r.now.kind v.r.now) ≤ LONGEST }
+        ensures { self.new ≡ self.old ++ rest_as v.entry.r.now.kind v.entry.r.now }
+    {
+        let r = v.r;
+        match r.kind {
+            Kind::Scalar => self.put_bytes(scalar_name(r.element)),
+            Kind::Pointer => self.put_pointer(r.element, r.attribute),
+            Kind::Tile => self.put_tile(v),
+            Kind::TensorView => self.put_tensor(v),
+            Kind::Partition => {
+                self.put_lead(v);
+                self.put_inner(v);
+                self.put_map(v);
+            }
+            Kind::GatherScatter => {
+                self.put_lead(v);
+                self.put_inner(v);
+                self.put_sparse(r.sparse);
+            }
+            Kind::Strided => {
+                self.put_lead(v);
+                self.put_travel(v);
+                self.put_inner(v);
+                self.put_map(v);
+            }
+            Kind::Token => (),
+        }
+    }
+
+    // The text of a record.
+    pub(crate) fn put_text(&mut self, v: Fit)
+        requires { length self.old + length (text v.r.now) ≤ LONGEST }
+        ensures { self.new ≡ self.old ++ text v.entry.r.now }
+    {
+        self.put_bytes(head(v.r.kind));
+        self.put_rest(v);
+    }
 }
