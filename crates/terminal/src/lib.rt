@@ -1,12 +1,14 @@
-// What the programs share at a terminal: reading into a room of fixed size, and how an entry is printed.
+// What the programs share at a terminal: reading into a room of fixed size, and how entries and scalars are printed.
 #![tactic(auto)]
 
 mod entry;
+mod name;
 
 ghost use Rattle.std.specs.Prelude.{◌≤◌, ◌<◌, length, take, IfOk, IfErr};
 ghost use Rattle.std.specs.Io.KnownBytes.{Consumes, IsAtEnd};
 
-pub use entry::Entry;
+pub use entry::{Entries, Entry};
+pub use name::scalar_name;
 use std::io::Read;
 
 // Reads until the room is full or the input ends, and says how many bytes came; where a read fails, how many came before it.
