@@ -1,7 +1,7 @@
 -- `fresh` meets its contract by computing.
 use mathlib.Core.Path.{refl}
 use Rattle.collector.specs.Collecting.{fresh}
-use Rattle.collector.proofs.fresh.Goals as goal
+use Rattle.collector.proofs.Collector.fresh.Goals as goal
 
 pub returns : goal.returns
 unfolding fresh
