@@ -1,33 +1,60 @@
 -- Blocks that hold a collector: what the code's tests say of `lent`, and what is laid back.
-use Prim.Native.Nat.{ℕ, suc, ◌+◌, ◌≤◌}
+use Prim.Native.Nat.{ℕ, ◌+◌, ◌≤◌}
 use native.Mathlib.Omega.{arith}
 use mathlib.Core.Bool.{Bool, true, false, ◌&&◌, false≢true}
-use mathlib.Core.List.{[], ◌∷◌, ◌++◌, append-nil}
-use Rattle.std.specs.Prelude.{None, Some}
+use mathlib.Core.List.{◌++◌, append-nil}
+use mathlib.Core.Option.{none, some}
 use mathlib.Core.Path.{◌≡◌, refl, sym, ap, ◌∙◌}
+use borrow.Rule.Slice.PartMut.{put_mid}
 use borrow.Author.Tests.{eqb-true, eq-eqb, ne_eqb}
 use lib.Dec.{eqb, leb}
-use lib.ListN.{length, take, drop, set, get_or, length-append, length-drop, take-append-drop, drop_of_length-le}
-use lib.Seq.{sets-eq, take_at}
+use lib.ListN.{length, take, drop, get_or, length-append, length-drop, take-append-drop, drop_of_length-le}
+use lib.Seq.{take_at}
 use Rattle.lexis.specs.Text.{Text}
 use Rattle.meaning.specs.Ordinary.{refused}
 use Rattle.meaning.specs.Refusals as R
-use Rattle.meaning.specs.declared.Refusal.TheVariants.{NotNormal}
+use Rattle.meaning.specs.declared.Refusal.{Refusal}
+use Rattle.meaning.specs.declared.Refusal.TheVariants.{Accepted, TooLong, HighByte, NoType, TooMany, NotStrict, NotNormal, NoText, RoomShort}
 use Rattle.numbers.specs.Numbers.{in_numbers}
 use Rattle.meaning.specs.declared.Reading.{Reading}
 use Rattle.collector.specs.declared.Collector.{Collector}
-use Rattle.collector.specs.declared.Fed.{Fed}
-use Rattle.collector.specs.Collecting.{in_order, fresh, number, told, fed, answered, ended}
+use Rattle.std.specs.Prelude.{Ok, Err}
+use Rattle.collector.specs.declared.Refused.{Refused}
+use Rattle.collector.specs.declared.Refused.TheVariants.{NotInOrder}
+use Rattle.collector.specs.Collecting.{Fed, in_order, fresh, number, told, fed, answered, ended}
 use Rattle.collector.specs.Parts.{of_parts}
 use Rattle.collector.proofs.Order as L
 use Rattle.collector.proofs.Pieces as P
 use Rattle.collector.proofs.Refusing as S
 use Rattle.capi.specs.Block.{formed, of_block, last_bytes, to_block, lent, feed_number, fed_block, read_block, ended_block, Formed}
 
--- three bytes laid behind the first n
-pub laid_behind : (b : Text) (n x y z : ℕ) → length b ≡ n + 3 → set (set (set b n x) (suc n) y) (suc (suc n)) z ≡ take n b ++ x ∷ y ∷ z ∷ []
-laid_behind b n x y z l = sets-eq (x ∷ y ∷ z ∷ []) b n (omega arith)
-    ∙ ap (λ (d : Text). take n b ++ x ∷ y ∷ z ∷ [] ++ d) (drop_of_length-le b {i = n + 3} (omega arith)) ∙ append-nil (take n b ++ x ∷ y ∷ z ∷ [])
+-- ── which answers are a refusal with 6 ──
+
+pub refused_6 : {v : Fed} (r : Refused) → v ≡ Err r → number v ≡ 6
+refused_6 NotInOrder e = ap number e
+
+pub taken_not_6 : {v : Fed} → v ≡ Ok tt → number v ≡ 6 → ⊥
+taken_not_6 e h = let z : ◌≡◌ {A = ℕ} 0 6 = sym (ap number e) ∙ h in omega arith
+
+pub not_normal_6 : {f : Refusal} → f ≡ NotNormal → R.number f ≡ 6
+not_normal_6 e = ap R.number e
+
+pub not_6 : (f : Refusal) → (f ≡ NotNormal → ⊥) → R.number f ≡ 6 → ⊥
+not_6 Accepted k h = omega arith
+not_6 TooLong k h = omega arith
+not_6 HighByte k h = omega arith
+not_6 NoType k h = omega arith
+not_6 TooMany k h = omega arith
+not_6 NotStrict k h = omega arith
+not_6 NotNormal k h = k refl
+not_6 NoText k h = omega arith
+not_6 RoomShort k h = omega arith
+
+-- what is laid in the place of all that stands behind the first n
+pub laid_behind : (b d e : Text) (n k : ℕ) → length b ≡ n + k → d ≡ e → put_mid n k b d ≡ take n b ++ e
+laid_behind b d e n k l h =
+    (λ i. take n b ++ (h i ++ drop_of_length-le (drop n b) {i = k} (let m = length-drop n b in omega arith) i))
+    ∙ ap (λ (x : Text). take n b ++ x) (append-nil e)
 
 both : (a b : Bool) → a && b ≡ true → (a ≡ true) × (b ≡ true)
 both true b e = (refl, e)
@@ -47,7 +74,7 @@ module _ (size : ℕ) (b : Text) where
   pub by_mark : length b ≡ size + 3 → leb (get_or b (size + 2) 0) 1 ≡ formed size b
   by_mark h = rw (eq-eqb (length b) (size + 3) h)
 
-  pub unformed : formed size b ≡ false → lent size b ≡ None
+  pub unformed : formed size b ≡ false → lent size b ≡ none
   unfolding lent
   unformed e = rw e
 
@@ -57,11 +84,11 @@ module _ (size : ℕ) (b : Text) where
   pub end_none : (r : Reading) → formed size b ≡ false → r ≡ refused 8 NotNormal 0 → (in_numbers r ≡ in_numbers (read_block 8 size (lent size b))) × (b ≡ ended_block size b (lent size b))
   end_none r e g = rw (unformed e) (ap in_numbers g, refl)
 
-  not_lent : formed size b ≡ true → in_order size (of_block size b) ≡ false → lent size b ≡ None
+  not_lent : formed size b ≡ true → in_order size (of_block size b) ≡ false → lent size b ≡ none
   unfolding lent
   not_lent f e = rw (f, e)
 
-  is_lent : formed size b ≡ true → in_order size (of_block size b) ≡ true → lent size b ≡ Some (of_block size b)
+  is_lent : formed size b ≡ true → in_order size (of_block size b) ≡ true → lent size b ≡ some (of_block size b)
   unfolding lent
   is_lent f e = rw (f, e)
 

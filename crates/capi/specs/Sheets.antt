@@ -1,5 +1,5 @@
 -- Totals of a sheet and the place of a row in numbers, as they cross to C (docs/ABI.md).
-use Rattle.std.specs.Prelude.{ℕ}
+use Rattle.std.specs.Prelude.{ℕ, true, false, Option, Some, None}
 use Rattle.lexis.specs.Text.{Text}
 use Rattle.sheet.specs.Sheet.{number, answered}
 use Rattle.sheet.specs.declared.Cut.{Cut}
@@ -27,12 +27,19 @@ total_numbers t = record {
 abbrev pub sheet_number : Text → ℕ
 sheet_number s = number (answered 65536 s)
 
--- where a row lies, beside the sheet's refusal
-unfoldable pub row_numbers : ℕ → Cut → TypetextRow
-row_numbers refusal c = record {
+-- where the row at a place lies, beside the sheet's refusal; where there is none the place stays
+unfoldable pub row_numbers : ℕ → ℕ → Option Cut → TypetextRow
+row_numbers refusal place (Some c) = record {
   first = c.first;
   end = c.end;
   next = c.next;
-  found = flag_number c.found;
+  found = flag_number true;
+  refusal = refusal;
+}
+row_numbers refusal place None = record {
+  first = place;
+  end = place;
+  next = place;
+  found = flag_number false;
   refusal = refusal;
 }

@@ -3,7 +3,7 @@ ghost use Rattle.std.specs.Prelude.{◌+◌, ◌*◌, ◌≤◌, ◌++◌, ◌�
 ghost use Rattle.numbers.specs.Numbers.{in_numbers};
 ghost use Rattle.capi.specs.Block.{formed, Formed, last_bytes, lent, feed_number, fed_block, read_block, ended_block};
 
-use collector::SIZE;
+use collector::{Refused, SIZE};
 use meaning::{Reading, Refusal, refuse};
 use numbers::{TypetextReading, in_numbers};
 
@@ -21,7 +21,7 @@ fn formed(block: &[u8]) -> bool
 fn two_bytes(high: u8, low: u8) -> usize
     ensures { result ≡ high * 256 + low }
 {
-    (high as usize) * 256 + (low as usize)
+    usize::from(u16::from_be_bytes([high, low]))
 }
 
 // Lays number and mark behind the bytes.
@@ -29,9 +29,8 @@ fn store(block: &mut [u8], len: usize, over: bool)
     requires { (length block.old ≡ 1027) × (len ≤ 1024) }
     ensures { block.new ≡ take 1024 block.old ++ last_bytes len over }
 {
-    block[SIZE] = (len / 256) as u8;
-    block[SIZE + 1] = (len % 256) as u8;
-    block[SIZE + 2] = over as u8;
+    let [high, low] = (len as u16).to_be_bytes();
+    block[SIZE..].copy_from_slice(&[high, low, over as u8]);
 }
 
 // A piece, for a block that has the form.
@@ -42,12 +41,13 @@ fn feed_formed(block: &mut [u8], len: usize, over: bool, piece: &[u8]) -> u8
 {
     let mut n = len;
     let mut o = over;
-    let v = collector::feed_parts(&mut block[..SIZE], &mut n, &mut o, piece);
-    if v.number() == 6 {
-        return 6;
+    match collector::feed_parts(&mut block[..SIZE], &mut n, &mut o, piece) {
+        Ok(()) => {
+            store(block, n, o);
+            0
+        }
+        Err(Refused::NotInOrder) => 6,
     }
-    store(block, n, o);
-    0
 }
 
 // The end, for a block that has the form.
@@ -59,12 +59,13 @@ fn end_formed(block: &mut [u8], len: usize, over: bool) -> Reading
     let mut n = len;
     let mut o = over;
     let r = collector::end_parts(&mut block[..SIZE], &mut n, &mut o);
-    let refusal = r.refusal;
-    if refusal.number() == 6 {
-        return r;
+    match r.refusal {
+        Refusal::NotNormal => r,
+        _ => {
+            store(block, n, o);
+            r
+        }
     }
-    store(block, n, o);
-    r
 }
 
 // A piece: 0, or 6 and the block as it was. Any block and any piece get an answer.

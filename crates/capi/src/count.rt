@@ -36,7 +36,6 @@ pub struct TypetextRow {
 fn total_numbers(t: Totals) -> TypetextTotals
     ensures { result ≡ total_numbers t }
 {
-    let answer = t.answer;
     TypetextTotals {
         rows: t.rows,
         accepted: t.accepted,
@@ -48,7 +47,7 @@ fn total_numbers(t: Totals) -> TypetextTotals
         b: t.b,
         c: t.c,
         d: t.d,
-        refusal: answer.number(),
+        refusal: t.answer.number(),
     }
 }
 
@@ -70,14 +69,23 @@ pub extern "C" fn typetext_totals(sheet: &[u8]) -> TypetextTotals
 // The row that begins at a place, and the place of the next. Any bytes and any place get an answer.
 #[unsafe(no_mangle)]
 pub extern "C" fn typetext_next_row(sheet: &[u8], place: usize) -> TypetextRow
-    ensures { result ≡ row_numbers (sheet_number sheet.now) (cut 65536 sheet.now place) }
+    ensures { result ≡ row_numbers (sheet_number sheet.now) place (cut 65536 sheet.now place) }
 {
-    let c = sheet::cut_at(sheet, place);
-    TypetextRow {
-        first: c.first,
-        end: c.end,
-        next: c.next,
-        found: c.found as u8,
-        refusal: sheet_number(sheet),
+    let refusal = sheet_number(sheet);
+    match sheet::cut_at(sheet, place) {
+        Some(c) => TypetextRow {
+            first: c.first,
+            end: c.end,
+            next: c.next,
+            found: 1,
+            refusal,
+        },
+        None => TypetextRow {
+            first: place,
+            end: place,
+            next: place,
+            found: 0,
+            refusal,
+        },
     }
 }

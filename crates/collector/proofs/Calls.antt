@@ -6,8 +6,7 @@ use Rattle.lexis.specs.Text.{Text}
 use Rattle.meaning.specs.Ordinary.{ordinary}
 use Rattle.meaning.specs.declared.Reading.{Reading}
 use Rattle.collector.specs.declared.Collector.{Collector}
-use Rattle.collector.specs.declared.Fed.{Fed}
-use Rattle.collector.specs.Collecting.{fresh, fed, answered, ended}
+use Rattle.collector.specs.Collecting.{Fed, fresh, fed, answered, ended}
 use Rattle.collector.proofs.Pieces as P
 use Rattle.collector.proofs.Unique.{Feeds, Ends}
 

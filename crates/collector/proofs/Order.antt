@@ -2,23 +2,24 @@
 use Rattle.std.specs.Prelude.{if◌then◌else◌}
 use Prim.Native.Nat.{ℕ, zero, suc, ◌+◌, ◌-◌, ◌≤◌, ◌<◌}
 use native.Mathlib.Nat.{sub-zero}
-use native.Mathlib.Numerals.{add-one}
 use native.Mathlib.Omega.{arith}
 use mathlib.Core.Bool.{Bool, true, false, ◌&&◌, and_self, and-true, and-false, and_assoc, not, false≢true}
-use mathlib.Core.List.{[], ◌∷◌, ◌++◌, append-nil}
+use mathlib.Core.List.{[], ◌∷◌, ◌++◌, append_assoc}
 use mathlib.Core.Path.{◌≡◌, refl, sym, ap, ◌∙◌}
+use borrow.Rule.Slice.PartMut.{put_mid, Post-is}
 use borrow.Author.Tests.{leb-true, eqb-true, le-leb, lt-leb, eq-eqb, ne_eqb}
 use lib.Dec.{eqb, leb}
-use lib.ListN.{length, take, drop, get_or, set, length-set, replicate, length-replicate, length-append, length-drop, drop_of_length-le}
-use lib.Seq.{take-length, length-take-le, drop-drop, paste, paste-zero, paste-suc}
+use lib.ListN.{length, take, drop, get_or, replicate, length-append, length-drop, drop_of_length-le}
+use lib.Seq.{length-take-le, drop-drop}
 use Rattle.lexis.specs.Text.{Text}
 use Rattle.lexis.proofs.Lists.{view}
 use Rattle.collector.specs.declared.Collector.{Collector}
 use Rattle.meaning.specs.Ordinary.{refused}
 use Rattle.meaning.specs.declared.Reading.{Reading}
 use Rattle.meaning.specs.declared.Refusal.TheVariants.{NotNormal}
-use Rattle.collector.specs.declared.Fed.TheVariants.{Taken, NotInOrder}
-use Rattle.collector.specs.Collecting.{zeros, in_order, held, laid, fresh, joined, told, fed, answer, answered, ended, number}
+use Rattle.std.specs.Prelude.{Ok, Err}
+use Rattle.collector.specs.declared.Refused.TheVariants.{NotInOrder}
+use Rattle.collector.specs.Collecting.{zeros, in_order, held, laid, fresh, joined, told, fed, answer, answered, ended}
 use Rattle.collector.specs.Parts.{of_parts}
 
 -- ── only zeros ──
@@ -52,32 +53,17 @@ zeros_drop zero s e = e
 zeros_drop (suc n) [] e = refl
 zeros_drop (suc n) (b ∷ s) e = zeros_drop n s (second (eqb b 0) (zeros s) e)
 
--- ── a piece is laid in, byte after byte ──
+-- ── what the code leaves of the bytes ──
 
-pub record Putting (d : Text) (at : ℕ) (s t : Text) (i : ℕ) : Type 0 where
-  pub same : t ≡ paste d at s i
-  pub long : length t ≡ length d
-  pub within : i ≤ length s
+-- zeros everywhere
+pub cleared : (size : ℕ) (b : Text) {t : Text} → length b ≡ size → t ≡ replicate (length b) 0 → t ≡ replicate size 0
+cleared size b l e = e ∙ ap (λ (n : ℕ). replicate n 0) l
 
-pub put_start : (d : Text) (at : ℕ) (s : Text) → Putting d at s d 0
-put_start d at s = record { same = paste-zero d at s; long = refl; within = omega arith }
-
-pub put_step : {d s t : Text} {at i : ℕ} → Putting d at s t i → i < length s → at + length s ≤ length d → Putting d at s (set t (at + i) (get_or s i 0)) (i + 1)
-put_step {d} {s} {t} {at} {i} p h k = record {
-  same = ap (λ (l : Text). set l (at + i) (get_or s i 0)) p.same ∙ paste-suc d at s i 0 (omega arith) h ∙ ap (λ (n : ℕ). paste d at s n) (sym (add-one i));
-  long = length-set t (at + i) (get_or s i 0) ∙ p.long;
-  within = omega arith;
-}
-
-pub put_end : {d s t : Text} {at i : ℕ} → Putting d at s t i → length s ≤ i → t ≡ paste d at s (length s)
-put_end {d} {s} {t} {at} {i} p h = let e : i ≡ length s = omega (arith, p.within) in p.same ∙ ap (λ (n : ℕ). paste d at s n) e
-
--- zeros laid everywhere
-pub cleared : (b z : Text) (n : ℕ) (t : Text) → length b ≡ n → z ≡ replicate n 0 → t ≡ paste b 0 z (length z) → t ≡ replicate n 0
-cleared b z n t l f e =
-    let k : length z ≡ n = ap length f ∙ length-replicate n 0 in
-    let d : drop (0 + length z) b ≡ [] = drop_of_length-le b {i = 0 + length z} (omega arith) in
-    e ∙ (λ i. take-length z i ++ d i) ∙ append-nil z ∙ f
+-- a piece, put in the place of as many bytes
+pub placed : (b p q : Text) (n : ℕ) → q ≡ p → put_mid n (n + length p - n) b q ≡ take n b ++ p ++ drop (n + length p) b
+placed b p q n e =
+    (λ i. take n b ++ (e i ++ Post-is n (n + length p) b (omega arith) i))
+    ∙ sym (append_assoc (take n b) p (drop (n + length p) b))
 
 -- ── in order ──
 
@@ -118,6 +104,7 @@ module _ (size : ℕ) (b : Text) (n : ℕ) (o : Bool) where
     pub full : length b ≡ size
     pub bound : n ≤ size
     pub room : zeros (drop n b) ≡ true
+    pub none : o ≡ true → n ≡ 0
     pub only : o ≡ true → zeros b ≡ true
 
   pub ordered : in_order size c ≡ true → Ordered
@@ -133,6 +120,7 @@ module _ (size : ℕ) (b : Text) (n : ℕ) (o : Bool) where
         full = eqb-true (length b) size (first (eqb (length b) size) l h);
         bound = leb-true n size (second (eqb (length b) size) l h);
         room = second (eqb (length b) size && l) z f;
+        none = λ k. eqb-true n 0 (first (eqb n 0) (zeros b) (ap (λ (t : Bool). if t then eqb n 0 && zeros b else true) (sym k) ∙ g));
         only = λ k. second (eqb n 0) (zeros b) (ap (λ (t : Bool). if t then eqb n 0 && zeros b else true) (sym k) ∙ g);
       }
 
@@ -143,9 +131,9 @@ module _ (size : ℕ) (b : Text) (n : ℕ) (o : Bool) where
     full = (ordered y).full
 
     -- over-full it stays, as it was
-    pub stays : o ≡ true → of_parts b 0 true ≡ laid size (joined size (held c) p)
+    pub stays : o ≡ true → c ≡ laid size (joined size (held c) p)
     unfolding held
-    stays h = rw h (ap (λ (l : Text). of_parts l 0 true) (blank b ((ordered y).only h) ∙ ap (λ (m : ℕ). replicate m 0) full))
+    stays h = rw h (λ i. of_parts ((blank b ((ordered y).only h) ∙ ap (λ (m : ℕ). replicate m 0) full) i) ((ordered y).none h i) true)
 
     long : length (take n b ++ p) ≡ n + length p
     long = length-append (take n b) p ∙ ap (λ (m : ℕ). m + length p) (length-take-le n b (let k = (ordered y).bound in let f = full in omega arith))
@@ -162,11 +150,11 @@ module _ (size : ℕ) (b : Text) (n : ℕ) (o : Bool) where
         ∙ ap (λ (k : ℕ). replicate k 0) (ap length (drop-drop (length p) n b) ∙ length-drop (n + length p) b ∙ (λ i. full i - sym e i))
 
     -- within it the piece stands behind what was held
-    pub joins : (t : Text) → o ≡ false → length p ≤ size - n → t ≡ paste b n p (length p) → of_parts t (n + length p) false ≡ laid size (joined size (held c) p)
+    pub joins : (t : Text) → o ≡ false → length p ≤ size - n → t ≡ take n b ++ p ++ drop (n + length p) b → of_parts t (n + length p) o ≡ laid size (joined size (held c) p)
     unfolding held
     joins t h k e =
         let g : leb (length (take n b ++ p)) size ≡ true = le-leb _ size (let l = long in let m = (ordered y).bound in omega arith) in
-        rw (h, g) (λ i. of_parts ((e ∙ ap (λ (l : Text). take n b ++ l ++ drop (n + length p) b) (take-length p) ∙ ap (λ (l : Text). take n b ++ p ++ l) (behind (length (take n b ++ p)) long)) i) (sym long i) false)
+        rw (h, g) (λ i. of_parts ((e ∙ ap (λ (l : Text). take n b ++ p ++ l) (behind (length (take n b ++ p)) long)) i) (sym long i) false)
 
 pub emptied : (size : ℕ) {b : Text} → b ≡ replicate size 0 → of_parts b 0 false ≡ fresh size
 unfolding fresh
@@ -175,11 +163,11 @@ emptied size e = ap (λ (l : Text). of_parts l 0 false) e ∙ ap (λ (n : ℕ). 
 -- ── the answers, by the order test ──
 
 module _ (cap size : ℕ) (c : Collector) where
-  pub feed_refused : (p : Text) → in_order size c ≡ false → (NotInOrder ≡ told size c) × (c ≡ fed size c p)
+  pub feed_refused : (p : Text) → in_order size c ≡ false → (Err NotInOrder ≡ told size c) × (c ≡ fed size c p)
   unfolding told fed
   feed_refused p n = rw n (refl, refl)
 
-  pub feed_taken : (p : Text) {d : Collector} → in_order size c ≡ true → d ≡ laid size (joined size (held c) p) → (Taken ≡ told size c) × (d ≡ fed size c p)
+  pub feed_taken : (p : Text) {d : Collector} → in_order size c ≡ true → d ≡ laid size (joined size (held c) p) → (Ok tt ≡ told size c) × (d ≡ fed size c p)
   unfolding told fed
   feed_taken p y e = rw y (refl, e)
 
@@ -201,29 +189,3 @@ module _ (cap size : ℕ) (c : Collector) where
 
   pub end_answered : {r : Reading} {d : Collector} → in_order size c ≡ true → r ≡ answer cap size (held c) → d ≡ fresh size → (r ≡ answered cap size c) × (d ≡ ended size c)
   end_answered y e f = (end_reads y e, f ∙ end_fresh y)
-
-  -- ── what a verdict tells ──
-
-  pub is_taken : in_order size c ≡ true → Taken ≡ told size c
-  unfolding told
-  is_taken y = rw y
-
-  pub is_refused : in_order size c ≡ false → NotInOrder ≡ told size c
-  unfolding told
-  is_refused n = rw n
-
-  pub taken_tells : Taken ≡ told size c → in_order size c ≡ true
-  unfolding told
-  taken_tells e = by (in_order size c) e
-    where
-      by : (d : Bool) → Taken ≡ (if d then Taken else NotInOrder) → d ≡ true
-      by true e = refl
-      by false e = let z : ◌≡◌ {A = ℕ} 0 6 = ap number e in let f : ⊥ = omega arith in absurd f
-
-  pub refused_tells : NotInOrder ≡ told size c → in_order size c ≡ false
-  unfolding told
-  refused_tells e = by (in_order size c) e
-    where
-      by : (d : Bool) → NotInOrder ≡ (if d then Taken else NotInOrder) → d ≡ false
-      by true e = let z : ◌≡◌ {A = ℕ} 6 0 = ap number e in let f : ⊥ = omega arith in absurd f
-      by false e = refl

@@ -14,7 +14,7 @@ use Rattle.lexis.specs.Text.{Text}
 use Rattle.meaning.specs.Ordinary.{ordinary, refused}
 use Rattle.meaning.specs.declared.Refusal.TheVariants.{TooLong}
 use Rattle.collector.specs.declared.Collector.{Collector}
-use Rattle.collector.specs.declared.Fed.TheVariants.{Taken}
+use Rattle.std.specs.Prelude.{Ok}
 use Rattle.collector.specs.Collecting.{in_order, Held, holds, over_full, held, laid, fresh, joined, told, fed, answer, answered, ended}
 use Rattle.collector.proofs.Order.{zeros_blank}
 
@@ -101,7 +101,7 @@ module _ (size : ℕ) where
   stays_in_order pieces = ap (in_order size) (collected pieces) ∙ laid_in_order (whole pieces) (fits_joined (holds []) (flatten pieces))
 
   -- no piece is refused
-  pub all_taken : (pieces : List Text) → told size (after pieces) ≡ Taken
+  pub all_taken : (pieces : List Text) → told size (after pieces) ≡ Ok tt
   unfolding told
   all_taken pieces = rw (stays_in_order pieces)
 

@@ -14,7 +14,8 @@ use Rattle.meaning.specs.Refusals as R
 use Rattle.meaning.specs.declared.Reading.{Reading}
 use Rattle.meaning.specs.declared.Refusal.TheVariants.{TooLong, TooMany, NotNormal}
 use Rattle.collector.specs.declared.Collector.{Collector}
-use Rattle.collector.specs.declared.Fed.TheVariants.{Taken, NotInOrder}
+use Rattle.std.specs.Prelude.{Ok, Err}
+use Rattle.collector.specs.declared.Refused.TheVariants.{NotInOrder}
 use Rattle.collector.specs.Collecting.{in_order, Held, holds, over_full, held, number, told, fed, answer, answered, ended}
 
 -- one of two facts holds exactly where the other does
@@ -59,7 +60,7 @@ module _ (cap size : ℕ) (c : Collector) where
   unfolding told
   piece_6 = (by (in_order size c), λ n. rw n)
     where
-      by : (d : Bool) → number (if d then Taken else NotInOrder) ≡ 6 → d ≡ false
+      by : (d : Bool) → number (if d then Ok tt else Err NotInOrder) ≡ 6 → d ≡ false
       by true e = let f : ⊥ = omega arith in absurd f
       by false e = refl
 

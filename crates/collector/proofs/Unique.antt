@@ -15,17 +15,16 @@ use Rattle.writer.proofs.Unique.{Alike}
 use Rattle.lexis.specs.Text.{Text}
 use Rattle.meaning.specs.declared.Reading.{Reading}
 use Rattle.collector.specs.declared.Collector.{Collector}
-use Rattle.collector.specs.declared.Fed.{Fed}
-use Rattle.collector.specs.Collecting.{told, fed, answered, ended}
+use Rattle.collector.specs.Collecting.{Fed, told, fed, answered, ended}
 use Rattle.collector.specs.Parts.{of_parts}
-use Rattle.collector.proofs.fresh.Reads as fresh-reads
-use Rattle.collector.proofs.fresh.Kinds as fresh-kinds
-use Rattle.collector.proofs.Fed.number.Reads as number
-use Rattle.collector.proofs.Fed.number.Kinds as number-kinds
+use Rattle.collector.proofs.Collector.fresh.Reads as fresh-reads
+use Rattle.collector.proofs.Collector.fresh.Kinds as fresh-kinds
+use Rattle.collector.proofs.number.Reads as number
+use Rattle.collector.proofs.number.Kinds as number-kinds
 use Rattle.collector.proofs.parts.feed_parts.Reads as feed-parts
 use Rattle.collector.proofs.parts.end_parts.Reads as end-parts
-use Rattle.collector.specs.contracts.feed as feed
-use Rattle.collector.specs.contracts.end as end
+use Rattle.collector.specs.contracts.Collector.feed as feed
+use Rattle.collector.specs.contracts.Collector.end as end
 
 pub fresh_one : (c d : Collector) (s t : AtExit (ended_of 0 fresh-kinds.ps fresh-kinds.r) tt) → fresh-reads.Post tt tt c s → fresh-reads.Post tt tt d t → c ≡ d
 fresh_one c d s t p q = p ∙ sym q

@@ -1,13 +1,13 @@
 -- Texts in fragments (02, C-13): what a collector holds, when it is in order, what a piece makes of it and what the end answers.
 -- `size` is the limit of a text, `cap` that of a list.
-use Rattle.std.specs.Prelude.{if◌then◌else◌, ℕ, ◌-◌, Bool, true, false, ◌&&◌, [], ◌∷◌, ◌++◌, eqb, leb, length, take, drop, replicate}
+use Rattle.std.specs.Prelude.{if◌then◌else◌, ℕ, ◌-◌, Bool, true, false, ◌&&◌, [], ◌∷◌, ◌++◌, eqb, leb, length, take, drop, replicate, Result, Ok, Err}
 use Rattle.lexis.specs.Text.{Text}
 use Rattle.meaning.specs.Ordinary.{ordinary, refused}
 use Rattle.meaning.specs.declared.Reading.{Reading}
 use Rattle.meaning.specs.declared.Refusal.TheVariants.{TooLong, NotNormal}
 use Rattle.collector.specs.declared.Collector.{Collector}
-use Rattle.collector.specs.declared.Fed.{Fed}
-use Rattle.collector.specs.declared.Fed.TheVariants.{Taken, NotInOrder}
+use Rattle.collector.specs.declared.Refused.{Refused}
+use Rattle.collector.specs.declared.Refused.TheVariants.{NotInOrder}
 
 -- ── in order ──
 
@@ -50,16 +50,19 @@ joined size (holds s) piece = if leb (length (s ++ piece)) size then holds (s ++
 joined size over_full piece = over_full
 
 -- a collector that isn't in order is refused and unaltered; a piece gives no other refusal
+abbrev pub Fed : Type 0
+Fed = Result (Unit {0}) Refused
+
 unfoldable pub told : ℕ → Collector → Fed
-told size c = if in_order size c then Taken else NotInOrder
+told size c = if in_order size c then Ok tt else Err NotInOrder
 
 unfoldable pub fed : ℕ → Collector → Text → Collector
 fed size c piece = if in_order size c then laid size (joined size (held c) piece) else c
 
 -- the number of each answer
 abbrev pub number : Fed → ℕ
-number Taken = 0
-number NotInOrder = 6
+number (Ok t) = 0
+number (Err NotInOrder) = 6
 
 -- ── the end ──
 

@@ -1,21 +1,21 @@
 -- Where rows lie: what the cut at a place says of the rows of the rest of the sheet from there on.
-use Rattle.std.specs.Prelude.{if◌then◌else◌}
+use Rattle.std.specs.Prelude.{if◌then◌else◌, Some, None}
+use Rattle.std.specs.Prelude.{Option}
 use Prim.Native.Nat.{ℕ, ◌+◌, ◌-◌, ◌≤◌, ◌<◌}
-use native.Mathlib.Nat.{add_assoc, sub-eq-zero_of_le, add-sub_cancel_left}
+use native.Mathlib.Nat.{add_assoc, add-sub_cancel_left}
 use native.Mathlib.Numerals.{add-one}
 use native.Mathlib.Omega.{arith}
-use mathlib.Core.Bool.{Bool, true, false, ◌&&◌, false≢true}
+use mathlib.Core.Bool.{Bool, true, false, ◌&&◌}
 use mathlib.Core.List.{List, [], ◌∷◌}
-use mathlib.Core.Path.{◌≡◌, refl, sym, ap, ◌∙◌}
+use mathlib.Core.Path.{◌≡◌, refl, sym, ap, subst, ◌∙◌}
 use borrow.Author.Tests.{leb-true, ltb-true, ltb-false, le-leb, lt-ltb, le-ltb}
 use lib.Dec.{eqb, leb, ltb}
 use lib.ListN.{length, take, drop, length-drop, drop_of_length-le}
-use lib.Seq.{take_all, take-nil, drop-drop}
+use lib.Seq.{drop-drop}
 use Rattle.lexis.specs.Text.{Text, onto_first, until}
-use Rattle.lexis.proofs.Lists.{rest}
 use Rattle.lexis.proofs.Seeking.{until_within, until_take}
 use Rattle.sheet.specs.declared.Cut.{Cut}
-use Rattle.sheet.specs.Sheet.{rows, behind, row_at, no_row, cut, stretch, bytes_of}
+use Rattle.sheet.specs.Sheet.{rows, behind, row_at, cut, stretch, bytes_of}
 
 -- ── the pieces of `cut_at` and `part` ──
 
@@ -26,23 +26,13 @@ module _ (s : Text) (end : ℕ) where
   pub without_feed : length s ≤ end → end ≡ behind s end
   without_feed h = rw (le-ltb end (length s) h)
 
-  module _ (first : ℕ) where
-    pub none_there : length s ≤ first → [] ≡ stretch first end s
-    none_there h = sym (rw (drop_of_length-le s h) (take-nil (end - first)))
-
-    pub to_the_end : length s ≤ end → take (length s - first) (drop first s) ≡ stretch first end s
-    to_the_end h = rest s first ∙ sym (take_all (end - first) (drop first s) (let l : length (drop first s) ≡ length s - first = length-drop first s in omega arith))
-
-    pub turned : end ≤ first → [] ≡ stretch first end s
-    turned h = sym (ap (λ (n : ℕ). take n (drop first s)) (sub-eq-zero_of_le h))
-
 module _ (limit : ℕ) (s : Text) (p : ℕ) where
   pub cut_row : {end next : ℕ} → leb (length s) limit && ltb p (length s) ≡ true → end ≡ p + length (until (eqb 10) (drop p s)) → next ≡ behind s end
-      → record { found = true; first = p; end = end; next = next } ≡ cut limit s p
+      → Some (record { first = p; end = end; next = next }) ≡ cut limit s p
   unfolding cut
   cut_row {end} {next} h e n = rw (h, n, e)
 
-  pub cut_none : leb (length s) limit && ltb p (length s) ≡ false → no_row p ≡ cut limit s p
+  pub cut_none : leb (length s) limit && ltb p (length s) ≡ false → None ≡ cut limit s p
   unfolding cut
   cut_none h = rw h
 
@@ -68,6 +58,11 @@ parted_at (b ∷ t) h = parted (b ∷ t) ∙ ap (λ (n : ℕ). until (eqb 10) (b
 
 -- ── the rows from a place on ──
 
+-- the cut that was found, or the other
+abbrev out : Cut → Option Cut → Cut
+out c (Some d) = d
+out c None = c
+
 module _ (limit : ℕ) (s : Text) where
   -- those that a walk from there yields
   abbrev pub left : ℕ → List Text
@@ -75,20 +70,13 @@ module _ (limit : ℕ) (s : Text) where
 
   -- what a cut that found a row says of the rows from its place on
   pub record Row (p : ℕ) (c : Cut) : Type 0 where
+    pub starts : c.first ≡ p
     pub short : length s ≤ limit
     pub inside : p < length s
     pub forward : p ≤ c.end
     pub ends : c.end ≤ length s
     pub onward : p < c.next
     pub same : left p ≡ bytes_of c s ∷ left c.next
-
-  pub first_is : (p : ℕ) → (cut limit s p).first ≡ p
-  unfolding cut
-  first_is p = by (leb (length s) limit && ltb p (length s))
-    where
-      by : (d : Bool) → (if d then row_at s p (p + length (until (eqb 10) (drop p s))) else no_row p).first ≡ p
-      by true = refl
-      by false = refl
 
   module _ (p : ℕ) where
     abbrev line : Text
@@ -107,6 +95,7 @@ module _ (limit : ℕ) (s : Text) where
         let l : length (drop p s) ≡ length s - p = length-drop p s in
         let u : length line ≤ length (drop p s) = until_within (eqb 10) (drop p s) in
         record {
+          starts = refl;
           short = h;
           inside = k;
           forward = omega arith;
@@ -122,30 +111,21 @@ module _ (limit : ℕ) (s : Text) where
         by true h = omega arith
         by false h = let k' = h refl in omega arith
 
-    pub found : (cut limit s p).found ≡ true → Row p (cut limit s p)
+    pub found : (c : Cut) → Some c ≡ cut limit s p → Row p c
     unfolding cut
-    found e = by (leb (length s) limit) (ltb p (length s)) (leb-true (length s) limit) (ltb-true p (length s)) e
+    found c e = by (leb (length s) limit) (ltb p (length s)) (leb-true (length s) limit) (ltb-true p (length s)) e
       where
-        by : (d f : Bool) → (d ≡ true → length s ≤ limit) → (f ≡ true → p < length s) → (if d && f then row_at s p (p + length line) else no_row p).found ≡ true → Row p (if d && f then row_at s p (p + length line) else no_row p)
-        by true true h k e = row (h refl) (k refl)
-        by true false h k e = absurd (false≢true e)
-        by false f h k e = absurd (false≢true e)
+        by : (d f : Bool) → (d ≡ true → length s ≤ limit) → (f ≡ true → p < length s) → Some c ≡ (if d && f then Some (row_at s p (p + length line)) else None) → Row p c
+        by true true h k e = subst (Row p) (sym (ap (out c) e)) (row (h refl) (k refl))
+        by true false h k e = cc
+        by false f h k e = cc
 
     -- where none is found there is none
-    pub ended : (cut limit s p).found ≡ false → left p ≡ []
+    pub ended : None ≡ cut limit s p → left p ≡ []
     unfolding cut
     ended e = by (leb (length s) limit) (ltb p (length s)) (ltb-false p (length s)) e
       where
-        by : (d f : Bool) → (f ≡ false → length s ≤ p) → (if d && f then row_at s p (p + length line) else no_row p).found ≡ false → (if d then rows (drop p s) else []) ≡ []
-        by true true k e = absurd (false≢true (sym e))
+        by : (d f : Bool) → (f ≡ false → length s ≤ p) → None ≡ (if d && f then Some (row_at s p (p + length line)) else None) → (if d then rows (drop p s) else []) ≡ []
+        by true true k e = cc
         by true false k e = ap rows (drop_of_length-le s (k refl))
         by false f k e = refl
-
-    -- and the place stays
-    pub stays : (cut limit s p).found ≡ false → cut limit s p ≡ no_row p
-    unfolding cut
-    stays e = by (leb (length s) limit && ltb p (length s)) e
-      where
-        by : (d : Bool) → (if d then row_at s p (p + length line) else no_row p).found ≡ false → (if d then row_at s p (p + length line) else no_row p) ≡ no_row p
-        by true e = absurd (false≢true (sym e))
-        by false e = refl

@@ -3,7 +3,6 @@ pub mod Cutting
 pub mod Bounds
 pub mod Summing
 pub mod Rows
-mod Held
 pub mod Unique
 pub mod Calls
 mod Examples

@@ -1,6 +1,7 @@
 -- The definition's rows, and that a walk by cuts yields exactly them, in order, and then ends.
 -- Joined again, the rows are the sheet; and each is accepted or refused with 1, 2, 3 or 4.
-use Rattle.std.specs.Prelude.{if◌then◌else◌}
+use Rattle.std.specs.Prelude.{if◌then◌else◌, Some, None}
+use Rattle.std.specs.Prelude.{Option}
 use Prim.Native.Nat.{ℕ, zero, suc, ◌+◌, ◌<◌}
 use native.Mathlib.Omega.{arith}
 use mathlib.Core.Bool.{Bool, true, false}
@@ -16,9 +17,9 @@ use Rattle.meaning.specs.declared.Reading.{Reading}
 use Rattle.sheet.specs.declared.Cut.{Cut}
 use Rattle.sheet.specs.declared.Counted.TheVariants.{TooLong}
 use Rattle.sheet.specs.Parts.{none as nothing}
-use Rattle.sheet.specs.Sheet.{rows, yielded, no_row, cut, bytes_of, sum, counted, totals}
+use Rattle.sheet.specs.Sheet.{rows, yielded, cut, onward, bytes_of, sum, counted, totals}
 use Rattle.meaning.proofs.Thin.{Thin, thin}
-use Rattle.sheet.proofs.Cutting.{left, found, ended, stays}
+use Rattle.sheet.proofs.Cutting.{left, found, ended}
 
 -- ── a walk ──
 
@@ -26,7 +27,7 @@ module _ (limit : ℕ) (s : Text) where
   -- the rows that so many cuts find, each from where the last one ended
   abbrev pub walked : ℕ → ℕ → List Text
   walked zero p = []
-  walked (suc n) p = if (cut limit s p).found then bytes_of (cut limit s p) s ∷ walked n (cut limit s p).next else []
+  walked (suc n) p = elim (cut limit s p) [ Some c ↦ bytes_of c s ∷ walked n c.next | None ↦ [] ]
 
   -- from a place on, with cuts enough: the rows of the rest
   pub walks : (n p : ℕ) → length s < n + p → walked n p ≡ left limit s p
@@ -35,19 +36,19 @@ module _ (limit : ℕ) (s : Text) where
       by : (d : Bool) → [] ≡ (if d then rows (drop p s) else [])
       by true = sym (ap rows (drop_of_length-le s {i = p} (omega arith)))
       by false = refl
-  walks (suc n) p h = by (cut limit s p).found refl (walks n (cut limit s p).next)
+  walks (suc n) p h = by (cut limit s p) refl (walks n)
     where
-      by : (d : Bool) → (cut limit s p).found ≡ d → (length s < n + (cut limit s p).next → walked n (cut limit s p).next ≡ left limit s (cut limit s p).next) → (if d then bytes_of (cut limit s p) s ∷ walked n (cut limit s p).next else []) ≡ left limit s p
-      by true e k = let r = found limit s p e in let o = r.onward in ap (λ (rs : List Text). bytes_of (cut limit s p) s ∷ rs) (k (omega arith)) ∙ sym r.same
-      by false e k = sym (ended limit s p e)
+      by : (o : Option Cut) → o ≡ cut limit s p → ((q : ℕ) → length s < n + q → walked n q ≡ left limit s q) → elim o [ Some c ↦ bytes_of c s ∷ walked n c.next | None ↦ [] ] ≡ left limit s p
+      by (Some c) e k = let r = found limit s p c e in let o = r.onward in ap (λ (rs : List Text). bytes_of c s ∷ rs) (k c.next (omega arith)) ∙ sym r.same
+      by None e k = sym (ended limit s p e)
 
   -- the whole walk, from the front: exactly the rows, in order, or none of a sheet over the limit; and more cuts find nothing more
   pub walks_all : (n : ℕ) → length s < n → walked n 0 ≡ yielded limit s
   walks_all n h = walks n 0 (omega arith)
 
   -- a walk that has ended stays ended, where it is
-  pub stays_ended : (p : ℕ) → (cut limit s p).found ≡ false → cut limit s (cut limit s p).next ≡ no_row p
-  stays_ended p e = ap (cut limit s) (ap (λ (c : Cut). c.next) (stays limit s p e)) ∙ stays limit s p e
+  pub stays_ended : (p : ℕ) → cut limit s p ≡ None → cut limit s (onward p (cut limit s p)) ≡ None
+  stays_ended p e = ap (λ (o : Option Cut). cut limit s (onward p o)) e ∙ e
 
   pub none_over : limit < length s → yielded limit s ≡ []
   none_over h = rw (lt-leb (length s) limit h)

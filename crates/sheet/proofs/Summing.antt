@@ -1,6 +1,6 @@
 -- Sums row by row: what a loop over the rows holds, and that nothing passes 64 bits, for no row adds much and there are few rows.
-use Rattle.std.specs.Prelude.{if◌then◌else◌}
-use Prim.Native.Nat.{ℕ, suc, ◌-◌, ◌*◌, ◌≤◌, ◌<◌, ◌^◌}
+use Rattle.std.specs.Prelude.{if◌then◌else◌, Some, None}
+use Prim.Native.Nat.{ℕ, suc, ◌*◌, ◌≤◌, ◌<◌, ◌^◌}
 use native.Mathlib.Nat.{add-zero, zero-add, add_assoc}
 use native.Mathlib.Omega.{arith}
 use mathlib.Core.Bool.{Bool, true, false}
@@ -15,12 +15,13 @@ use Rattle.meaning.specs.Refusals as R
 use Rattle.meaning.specs.declared.Reading.{Reading}
 use Rattle.sheet.specs.declared.Counted.{Counted}
 use Rattle.sheet.specs.declared.Cut.{Cut}
+use Rattle.sheet.specs.declared.walker.Walker.{Walker}
+use denote.Ref.{Bor}
 use Rattle.sheet.specs.declared.sums.Totals.{Totals}
-use Rattle.sheet.specs.declared.sums.Told.{Told}
-use Rattle.sheet.specs.Sheet.{rows, yielded, cut, bytes_of, answered, sum, counted, summed, totals}
-use Rattle.sheet.specs.Parts.{told, none, one, ◌plus◌, added, Below}
+use Rattle.sheet.specs.Sheet.{rows, yielded, cut, bytes_of, answered, sum, counted, summed, totals, Nexts}
+use Rattle.sheet.specs.Parts.{none, one, ◌plus◌, added, Below}
 use Rattle.sheet.proofs.Bounds.{most, few}
-use Rattle.sheet.proofs.Cutting.{left, Row, first_is, found, ended}
+use Rattle.sheet.proofs.Cutting.{left, Row, found, ended}
 
 -- ── totals, and those of more rows ──
 
@@ -146,42 +147,32 @@ module _ (s : Text) where
   abbrev pub to_come : ℕ → Totals
   to_come p = summed (answered 65536 s) read (left 65536 s p)
 
-  pub record Counting (t : Totals) (c : Cut) : Type 0 where
-    pub at : c ≡ cut 65536 s c.first
-    pub same : totals 65536 8 1024 s ≡ t plus to_come c.first
+  -- the totals so far, with those of the rows from the walker's place on, are the sheet's
+  pub record Counting (t : Totals) (w : Walker) : Type 0 where
+    pub on : w.sheet.now ≡ s
+    pub same : totals 65536 8 1024 s ≡ t plus to_come w.place
 
-  pub begins : {t : Totals} {c : Cut} {a : Counted} → a ≡ answered 65536 s → t ≡ none a → c ≡ cut 65536 s 0 → Counting t c
+  pub begins : {t : Totals} {w : Walker} {a : Counted} → a ≡ answered 65536 s → t ≡ none a → w.sheet.now ≡ s → w.place ≡ 0 → Counting t w
   unfolding totals
-  begins {t} {c} {a} e n k =
-      let z : c.first ≡ 0 = ap (λ (d : Cut). d.first) k ∙ first_is 65536 s 0 in
-      record {
-        at = k ∙ ap (cut 65536 s) (sym z);
-        same = sym (none_plus (to_come 0)) ∙ (λ i. sym (n ∙ ap none e) i plus to_come (sym z i));
-      }
+  begins e n o z = record { on = o; same = sym (none_plus (to_come 0)) ∙ (λ i. sym (n ∙ ap none e) i plus to_come (sym z i)) }
 
-  module _ {t : Totals} {c : Cut} (g : Counting t c) where
-    pub row : c.found ≡ true → Row 65536 s c.first c
-    row e = subst (Row 65536 s c.first) (sym g.at) (found 65536 s c.first (sym (ap (λ (d : Cut). d.found) g.at) ∙ e))
+  module _ {t : Totals} {w v : Walker} (g : Counting t w) where
+    module _ {c : Cut} (x : Nexts 65536 w (Some c) v) where
+      pub row : Row 65536 s w.place c
+      row = found 65536 s w.place c (x.0 ∙ ap (λ (l : Text). cut 65536 l w.place) g.on)
 
-    module _ {r : Told} (e : c.found ≡ true) (q : r ≡ told (read (bytes_of c s))) where
-      -- the first row to come is counted
-      grown : totals 65536 8 1024 s ≡ added t r plus to_come c.next
-      grown =
-          g.same ∙ ap (λ (rs : List Text). t plus summed (answered 65536 s) read rs) (row e).same
-          ∙ sym (plus_assoc t (one (told (read (bytes_of c s)))) (to_come c.next)) ∙ ap (λ (x : Told). added t x plus to_come c.next) (sym q)
+      module _ {r : Reading} (q : r ≡ read (bytes_of c s)) where
+        -- the first row to come is counted
+        grown : totals 65536 8 1024 s ≡ added t r plus to_come c.next
+        grown =
+            g.same ∙ ap (λ (rs : List Text). t plus summed (answered 65536 s) read rs) row.same
+            ∙ sym (plus_assoc t (one (read (bytes_of c s))) (to_come c.next)) ∙ ap (λ (y : Reading). added t y plus to_come c.next) (sym q)
 
-      pub room : Below (2 ^ 64) (added t r)
-      room = part_below (2 ^ 64) (added t r) (to_come c.next) (subst (Below (2 ^ 64)) grown below)
+        pub room : Below (2 ^ 64) (added t r)
+        room = part_below (2 ^ 64) (added t r) (to_come c.next) (subst (Below (2 ^ 64)) grown below)
 
-      module _ {u : Totals} {d : Cut} (p : u ≡ added t r) (k : d ≡ cut 65536 s c.next) where
-        starts : d.first ≡ c.next
-        starts = ap (λ (x : Cut). x.first) k ∙ first_is 65536 s c.next
+        pub again : {u : Totals} → u ≡ added t r → Counting u v
+        again p = record { on = ap (λ (b : Bor Text). b.now) x.1.0 ∙ g.on; same = grown ∙ (λ i. sym p i plus to_come (sym x.1.1 i)) }
 
-        pub again : Counting u d
-        again = record { at = k ∙ ap (cut 65536 s) (sym starts); same = grown ∙ (λ i. sym p i plus to_come (sym starts i)) }
-
-        pub less : length s - d.first < length s - c.first
-        less = let a = (row e).inside in let b = (row e).onward in let f = starts in omega arith
-
-    pub done : c.found ≡ false → t ≡ totals 65536 8 1024 s
-    done e = sym (g.same ∙ ap (λ (rs : List Text). t plus summed (answered 65536 s) read rs) (ended 65536 s c.first (sym (ap (λ (d : Cut). d.found) g.at) ∙ e)) ∙ plus_none t (answered 65536 s))
+    pub done : Nexts 65536 w None v → t ≡ totals 65536 8 1024 s
+    done x = sym (g.same ∙ ap (λ (rs : List Text). t plus summed (answered 65536 s) read rs) (ended 65536 s w.place (x.0 ∙ ap (λ (l : Text). cut 65536 l w.place) g.on)) ∙ plus_none t (answered 65536 s))

@@ -14,18 +14,20 @@ use borrow.Fn.Kinds.{ended_of}
 use borrow.Fn.World.{ArgsD, ResD}
 use denote.Ref.{Bor}
 use denote.Triple.Clauses.{AtExit}
+use Rattle.std.specs.Prelude.{Option}
 use Rattle.lexis.proofs.Unique.{One}
 use Rattle.sheet.specs.declared.Counted.{Counted}
 use Rattle.sheet.specs.declared.Cut.{Cut}
-use Rattle.sheet.specs.declared.Walker.{Walker}
-use Rattle.sheet.specs.Sheet.{cut, bytes_of}
+use Rattle.sheet.specs.declared.walker.Walker.{Walker}
+use Rattle.sheet.specs.Sheet.{bytes_of, onward, Nexts}
 use Rattle.sheet.proofs.Counted.number.Reads as number
 use Rattle.sheet.proofs.Counted.number.Kinds as number-kinds
 use Rattle.sheet.proofs.lines.cut_at.Reads as cut_at
 use Rattle.sheet.proofs.totals.Reads as totals
-use Rattle.sheet.specs.contracts.walk as walk
-use Rattle.sheet.specs.contracts.next as next
-use Rattle.sheet.specs.contracts.row as row
+use Rattle.sheet.specs.contracts.walker.Walker.new as walk
+use Rattle.sheet.specs.contracts.walker.Walker.row as row
+use Rattle.sheet.specs.contracts.walker.WalkerIterator.next as next
+use Rattle.sheet.proofs.walker.WalkerIterator.next.Reads as next-reads
 
 pub number_one : (f : Counted) (m n : ℕ) (s t : AtExit (ended_of 0 number-kinds.ps number-kinds.r) tt) → number.Post tt (f, tt) m s → number.Post tt (f, tt) n t → m ≡ n
 number_one f m n s t p q = p ∙ sym q
@@ -38,13 +40,13 @@ totals_one κs a x y s t p q = p ∙ sym q
 
 -- ── the walker ──
 
+-- what `next` promises of a call is what `Nexts` says
+pub next_says : (κs : Lfts 2) (a : ArgsD next.signature κs) (c : ResD next.signature κs) (s : AtExit next.ended κs) → next-reads.Post κs a c s → Nexts 65536 a.0.now c s.0.now
+next_says κs a c s p = p.0
+
 -- where a walk begins
 abbrev pub Begins : Bor (List ℕ) → Walker → Type 0
 Begins s w = (w.sheet ≡ s) × (w.place ≡ 0)
-
--- what the next row is, and what it leaves of the walker
-abbrev pub Nexts : Walker → Cut → Walker → Type 0
-Nexts w c v = (c ≡ cut 65536 w.sheet.now w.place) × ((v.sheet ≡ w.sheet) × (v.place ≡ c.next))
 
 -- what a row holds
 abbrev pub Holds : Walker → Cut → Bor (List ℕ) → Type 0
@@ -53,9 +55,6 @@ Holds w c r = r.now ≡ bytes_of c w.sheet.now
 module _ {M : Type 1} {𝓤 : Ura M} (𝓛 : Logic 𝓤) (mem : Memory → SProp 𝓤) (run : Routine → Fun 𝓤) where
   pub walk_says : (κs : Lfts 1) (a : ArgsD walk.signature κs) (w : ResD walk.signature κs) (s : AtExit walk.ended κs) → (walk.clauses 𝓛 mem run κs a).ensures tt w s ≡ fact 𝓤 (Begins a.0 w)
   walk_says κs a w s = refl
-
-  pub next_says : (κs : Lfts 2) (a : ArgsD next.signature κs) (c : ResD next.signature κs) (s : AtExit next.ended κs) → (next.clauses 𝓛 mem run κs a).ensures tt c s ≡ fact 𝓤 (Nexts a.0.now c s.0.now)
-  next_says κs a c s = refl
 
   pub row_says : (κs : Lfts 1) (a : ArgsD row.signature κs) (r : ResD row.signature κs) (s : AtExit row.ended κs) → (row.clauses 𝓛 mem run κs a).ensures tt r s ≡ fact 𝓤 (Holds a.0 a.1.0 r)
   row_says κs a r s = refl
@@ -66,10 +65,10 @@ same_walker p q = λ i. record { sheet = p i; place = q i }
 pub walk_one : (s : Bor (List ℕ)) (v w : Walker) → Begins s v → Begins s w → v ≡ w
 walk_one s v w p q = same_walker (p.0 ∙ sym q.0) (p.1 ∙ sym q.1)
 
-pub next_one : (w : Walker) (c d : Cut) (u v : Walker) → Nexts w c u → Nexts w d v → (c ≡ d) × (u ≡ v)
+pub next_one : (w : Walker) (c d : Option Cut) (u v : Walker) → Nexts 65536 w c u → Nexts 65536 w d v → (c ≡ d) × (u ≡ v)
 next_one w c d u v p q =
     let e : c ≡ d = p.0 ∙ sym q.0 in
-    (e, same_walker (p.1.0 ∙ sym q.1.0) (p.1.1 ∙ ap (λ (x : Cut). x.next) e ∙ sym q.1.1))
+    (e, same_walker (p.1.0 ∙ sym q.1.0) (p.1.1 ∙ ap (onward w.place) e ∙ sym q.1.1))
 
 pub row_one : (w : Walker) (c : Cut) (r s : Bor (List ℕ)) → Holds w c r → Holds w c s → r.now ≡ s.now
 row_one w c r s p q = p ∙ sym q

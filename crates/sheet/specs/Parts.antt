@@ -1,17 +1,10 @@
 -- What the totals are made of, row by row.
-use Rattle.std.specs.Prelude.{if◌then◌else◌, ℕ, ◌+◌, ◌<◌, eqb}
-use Rattle.meaning.specs.Refusals as R
+use Rattle.std.specs.Prelude.{ℕ, ◌+◌, ◌<◌}
 use Rattle.meaning.specs.declared.Reading.{Reading}
 use Rattle.sheet.specs.declared.Counted.{Counted}
 use Rattle.sheet.specs.declared.Counted.TheVariants.{Whole}
 use Rattle.sheet.specs.declared.sums.Totals.{Totals}
-use Rattle.sheet.specs.declared.sums.Told.{Told}
-
-abbrev pub told : Reading → Told
-told r = record { number = R.number r.refusal; note = r.note }
-
-abbrev pub once : ℕ → ℕ → ℕ
-once number n = if eqb number n then 1 else 0
+use Rattle.sheet.specs.Sheet.{counted}
 
 -- no row yet
 abbrev pub none : Counted → Totals
@@ -30,15 +23,15 @@ none answer = record {
 }
 
 -- those of one row
-abbrev pub one : Told → Totals
+abbrev pub one : Reading → Totals
 one r = record {
   answer = Whole;
   rows = 1;
-  accepted = once r.number 0;
-  refused_1 = once r.number 1;
-  refused_2 = once r.number 2;
-  refused_3 = once r.number 3;
-  refused_4 = once r.number 4;
+  accepted = counted 0 r;
+  refused_1 = counted 1 r;
+  refused_2 = counted 2 r;
+  refused_3 = counted 3 r;
+  refused_4 = counted 4 r;
   a = r.note.a;
   b = r.note.b;
   c = r.note.c;
@@ -63,7 +56,7 @@ t plus u = record {
 }
 
 -- one row more
-abbrev pub added : Totals → Told → Totals
+abbrev pub added : Totals → Reading → Totals
 added t r = t plus one r
 
 -- every number is below n

@@ -1,6 +1,7 @@
 -- A sheet of texts (02, C-11): its rows, where each lies, and the totals over them.
 -- `limit` is that of a sheet, `size` that of a text, `cap` that of a list.
-use Rattle.std.specs.Prelude.{if◌then◌else◌, ℕ, ◌+◌, ◌-◌, true, false, ◌&&◌, List, [], ◌∷◌, eqb, leb, ltb, length, take, drop}
+use Rattle.std.specs.Prelude.{if◌then◌else◌, ℕ, ◌+◌, ◌-◌, ◌&&◌, List, [], ◌∷◌, eqb, leb, ltb, length, take, drop, ◌≡◌, Some, None}
+use Rattle.std.specs.Prelude.{Option}
 use Rattle.lexis.specs.Text.{Text, onto_first, until}
 use Rattle.meaning.specs.Ordinary.{ordinary}
 use Rattle.meaning.specs.Refusals as R
@@ -8,6 +9,7 @@ use Rattle.meaning.specs.declared.Reading.{Reading}
 use Rattle.sheet.specs.declared.Counted.{Counted}
 use Rattle.sheet.specs.declared.Counted.TheVariants.{Whole, TooLong}
 use Rattle.sheet.specs.declared.Cut.{Cut}
+use Rattle.sheet.specs.declared.walker.Walker.{Walker}
 use Rattle.sheet.specs.declared.sums.Totals.{Totals}
 
 -- ── rows ──
@@ -28,15 +30,20 @@ abbrev pub behind : Text → ℕ → ℕ
 behind s end = if ltb end (length s) then end + 1 else end
 
 abbrev pub row_at : Text → ℕ → ℕ → Cut
-row_at s first end = record { found = true; first = first; end = end; next = behind s end }
-
--- none: the place stays
-abbrev pub no_row : ℕ → Cut
-no_row place = record { found = false; first = place; end = place; next = place }
+row_at s first end = record { first = first; end = end; next = behind s end }
 
 -- the row at a place, up to the first byte 10; none past the end, nor in a sheet over the limit
-unfoldable pub cut : ℕ → Text → ℕ → Cut
-cut limit s place = if leb (length s) limit && ltb place (length s) then row_at s place (place + length (until (eqb 10) (drop place s))) else no_row place
+unfoldable pub cut : ℕ → Text → ℕ → Option Cut
+cut limit s place = if leb (length s) limit && ltb place (length s) then Some (row_at s place (place + length (until (eqb 10) (drop place s)))) else None
+
+-- the place that follows: behind the row's line feed; where there is none the place stays
+abbrev pub onward : ℕ → Option Cut → ℕ
+onward place (Some c) = c.next
+onward place None = place
+
+-- a walker's next row is the cut at its place, and it then stands behind that; its sheet stays
+abbrev pub Nexts : ℕ → Walker → Option Cut → Walker → Type 0
+Nexts limit w r v = (r ≡ cut limit w.sheet.now w.place) × ((v.sheet ≡ w.sheet) × (v.place ≡ onward w.place r))
 
 -- the bytes from a place to another, as far as there are any
 abbrev pub stretch : ℕ → ℕ → Text → Text

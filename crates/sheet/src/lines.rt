@@ -12,24 +12,18 @@ fn behind(sheet: &[u8], end: usize) -> usize
 }
 
 // The row that begins at `place`: up to the next line feed, or to the end. A sheet over the limit has none, nor is there one past the end.
-pub fn cut_at(sheet: &[u8], place: usize) -> Cut
+pub fn cut_at(sheet: &[u8], place: usize) -> Option<Cut>
     ensures { result ≡ cut 65536 sheet.now place }
 {
     if (sheet.len() <= LIMIT) & (place < sheet.len()) {
-        let end = lexis::seek(sheet, place, 10);
-        Cut {
-            found: true,
+        let end = lexis::seek(sheet, place, b'\n');
+        Some(Cut {
             first: place,
             end,
             next: behind(sheet, end),
-        }
+        })
     } else {
-        Cut {
-            found: false,
-            first: place,
-            end: place,
-            next: place,
-        }
+        None
     }
 }
 
@@ -37,14 +31,7 @@ pub fn cut_at(sheet: &[u8], place: usize) -> Cut
 pub(crate) fn part<'a>(sheet: &'a [u8], first: usize, end: usize) -> &'a [u8]
     ensures { result.now ≡ stretch first end sheet.now }
 {
-    if sheet.len() <= first {
-        return &sheet[..0]; // nothing is there
-    }
-    if sheet.len() <= end {
-        return &sheet[first..];
-    }
-    if end <= first {
-        return &sheet[..0];
-    }
+    let end = end.min(sheet.len());
+    let first = first.min(end);
     &sheet[first..end]
 }

@@ -1,13 +1,13 @@
 // The totals.
 ghost use Rattle.std.specs.Prelude.{◌^◌, ◌≡◌};
-ghost use Rattle.meaning.specs.Ordinary.{ordinary};
 ghost use Rattle.sheet.specs.Sheet.{answered};
-ghost use Rattle.sheet.specs.Parts.{once, told, none, added, Below};
+ghost use Rattle.sheet.specs.Parts.{none, added, Below};
 
 use crate::{Counted, LIMIT};
-use meaning::Note;
+use meaning::{Reading, Refusal};
 
 // The totals over the rows: how many, how many of each answer, and the default counts.
+// kept: C gets the four refusals by these names (`TypetextTotals`), and a match names them more plainly than places of an array
 #[derive(Clone, Copy)]
 pub struct Totals {
     pub answer: Counted,
@@ -23,50 +23,26 @@ pub struct Totals {
     pub d: usize,
 }
 
-// What of a row's reading is counted: the refusal's number, 0 where it is accepted, and the default counts.
-#[derive(Clone, Copy)]
-pub(crate) struct Told {
-    number: u8,
-    note: Note,
-}
-
-pub(crate) fn tell(row: &[u8]) -> Told
-    ensures { result ≡ told (ordinary 8 1024 row.now) }
-{
-    let r = ordinary::parse(row);
-    let refusal = r.refusal;
-    let note = r.note;
-    Told {
-        number: refusal.number(),
-        note,
-    }
-}
-
-fn once(number: u8, n: u8) -> usize
-    ensures { result ≡ once number n }
-{
-    if number == n { 1 } else { 0 }
-}
-
-// The totals, with one row more.
-pub(crate) fn added(t: Totals, r: Told) -> Totals
-    requires { Below (2 ^ 64) (added t r) }
-    ensures { result ≡ added t r }
-{
-    let answer = t.answer;
-    let note = r.note;
-    Totals {
-        answer,
-        rows: t.rows + 1,
-        accepted: t.accepted + once(r.number, 0),
-        refused_1: t.refused_1 + once(r.number, 1),
-        refused_2: t.refused_2 + once(r.number, 2),
-        refused_3: t.refused_3 + once(r.number, 3),
-        refused_4: t.refused_4 + once(r.number, 4),
-        a: t.a + note.a,
-        b: t.b + note.b,
-        c: t.c + note.c,
-        d: t.d + note.d,
+impl Totals {
+    // One row more, with what was read in it.
+    pub(crate) fn count(&mut self, r: &Reading)
+        requires { Below (2 ^ 64) (added self.old r.now) }
+        ensures { self.new ≡ added self.old r.now }
+    {
+        self.rows += 1;
+        self.a += r.note.a;
+        self.b += r.note.b;
+        self.c += r.note.c;
+        self.d += r.note.d;
+        match r.refusal {
+            Refusal::Accepted => self.accepted += 1,
+            Refusal::TooLong => self.refused_1 += 1,
+            Refusal::HighByte => self.refused_2 += 1,
+            Refusal::NoType => self.refused_3 += 1,
+            Refusal::TooMany => self.refused_4 += 1,
+            // The ordinary reader gives no other.
+            _ => {}
+        }
     }
 }
 

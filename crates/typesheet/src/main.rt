@@ -1,84 +1,51 @@
 // Counts a sheet of type texts, one a row, from standard input (02, C-11).
 #![tactic(auto)]
 
-mod say;
+mod help;
 mod words;
 
-ghost use Rattle.std.specs.Prelude.{◌≤◌, IfOk, length};
-
-use say::{line, say, say_number};
-use sheet::Totals;
+use sheet::{Counted, Totals};
 use std::env::Env;
-use std::io::{self, Eprint, Input, Print, Read};
-
-fn defaults<R: Print>(rt: &R, t: Totals) -> io::Result<()> {
-    say(rt, b"defaults ")?;
-    say_number(rt, t.a)?;
-    say(rt, b" ")?;
-    say_number(rt, t.b)?;
-    say(rt, b" ")?;
-    say_number(rt, t.c)?;
-    say(rt, b" ")?;
-    say_number(rt, t.d)?;
-    say(rt, b"\n")
-}
-
-fn lines<R: Print>(rt: &R, t: Totals) -> io::Result<()> {
-    line(rt, b"rows ", t.rows)?;
-    line(rt, b"accepted ", t.accepted)?;
-    line(rt, b"refused-1 ", t.refused_1)?;
-    line(rt, b"refused-2 ", t.refused_2)?;
-    line(rt, b"refused-3 ", t.refused_3)?;
-    line(rt, b"refused-4 ", t.refused_4)?;
-    defaults(rt, t)
-}
+use std::io::{self, Eprint, Input, Print};
+use words::Asked;
 
 // The seven lines, or the refusal alone.
 fn report<R: Print>(rt: &R, t: Totals) -> io::Result<()> {
-    let answer = t.answer;
-    let number = answer.number();
-    if number != 0 {
-        return line(rt, b"refused-", number as usize);
+    match t.answer {
+        Counted::TooLong => println!(rt; "refused-9"),
+        Counted::Whole => lines(rt, t),
     }
-    lines(rt, t)
 }
 
-// What can't be read to its end, such as a folder, has no totals.
-fn unreadable<R: Eprint>(rt: &R) -> io::Result<()> {
-    eprintln!(rt; "typesheet: standard input can't be read")
+fn lines<R: Print>(rt: &R, t: Totals) -> io::Result<()> {
+    println!(rt; "rows {}", t.rows)?;
+    println!(rt; "accepted {}", t.accepted)?;
+    println!(rt; "refused-1 {}", t.refused_1)?;
+    println!(rt; "refused-2 {}", t.refused_2)?;
+    println!(rt; "refused-3 {}", t.refused_3)?;
+    println!(rt; "refused-4 {}", t.refused_4)?;
+    println!(rt; "defaults {} {} {} {}", t.a, t.b, t.c, t.d)
 }
 
-// Reads until the room is full or the input ends.
-fn fill<R: Read>(from: &mut R, room: &mut [u8]) -> io::Result<usize>
-    ensures { IfOk result (λ n. n ≤ length room.new) }
-{
-    let mut n = 0;
-    while n < room.len() {
-        let k = from.read(&mut room[n..])?;
-        if k == 0 {
-            return Ok(n);
-        }
-        n += k;
+fn count<R: Eprint + Input + Print>(rt: &R) -> io::Result<()> {
+    // One byte more than a sheet may have: what is longer fills it, and is refused.
+    let mut room = [0u8; sheet::LIMIT + 1];
+    match terminal::fill(&mut rt.reader(), &mut room) {
+        Ok(n) => report(rt, sheet::totals(&room[..n])),
+        // What can't be read to its end, such as a folder, has no totals.
+        Err(_) => eprintln!(rt; "typesheet: standard input can't be read"),
     }
-    Ok(n)
 }
 
 fn run<R: Env + Eprint + Input + Print>(rt: &R) -> io::Result<()> {
-    if !words::ask_for_totals(rt)? {
-        return Ok(());
-    }
-    // One byte more than a sheet may have: what is longer fills it, and is refused.
-    let mut room = [0u8; sheet::LIMIT + 1];
-    match fill(&mut rt.reader(), &mut room) {
-        Ok(n) => report(rt, sheet::totals(&room[..n])),
-        Err(_) => unreadable(rt),
+    match words::ask(rt) {
+        Asked::Totals => count(rt),
+        Asked::Help => help::help(rt),
+        Asked::Unknown => help::usage(rt),
     }
 }
 
 // What can't be written, as on a full disk or where nobody reads on, is left out.
-fn main(rt: HostRuntime) -> io::Result<()> {
-    match run(&rt) {
-        Ok(()) => Ok(()),
-        Err(_) => Ok(()),
-    }
+fn main(rt: HostRuntime) {
+    let _ = run(&rt);
 }

@@ -1,71 +1,73 @@
-// What is printed for --help.
+// What is printed for --help, and for words that aren't understood.
 use super::refusal::meaning;
-use super::say::say;
+use super::text::Plain;
+use super::words::Usage;
+use meaning::Refusal;
+use std::env::{Env, FillError};
 use std::io::{self, Print};
 
-pub fn synopsis<R: Print>(rt: &R) -> io::Result<()> {
-    say(
-        rt,
-        b"  typetext read TEXT           the ordinary reader: the type field by field, and the defaults it took\n",
-    )?;
-    say(
-        rt,
-        b"  typetext strict TEXT         the strict reader: the same, or a refusal where the text isn't strict\n",
-    )?;
-    say(
-        rt,
-        b"  typetext write TEXT          reads strictly, and prints the type's written text\n",
-    )?;
-    say(
-        rt,
-        b"  typetext write --loose TEXT  the same with the ordinary reader\n",
-    )?;
-    say(
-        rt,
-        b"  typetext --help              all of the help; also -h, help, and no words at all\n",
-    )
-}
+const SYNOPSIS: &str =
+    "  typetext read TEXT           the ordinary reader: the type field by field, and the defaults it took
+  typetext strict TEXT         the strict reader: the same, or a refusal where the text isn't strict
+  typetext write TEXT          reads strictly, and prints the type's written text
+  typetext write --loose TEXT  the same with the ordinary reader
+  typetext --help              all of the help; also -h, help, and no words at all
+";
 
-fn words<R: Print>(rt: &R) -> io::Result<()> {
-    say(
-        rt,
-        b"\nPut TEXT in single quotes. Where it is left out, it is all of standard input without a final newline.\n",
-    )?;
-    say(
-        rt,
-        b"In a list, ? is a size that is known only when the kernel runs.\n",
-    )
-}
+const WORDS: &str =
+    "Put TEXT in single quotes. Where it is left out, it is all of standard input without a final newline.
+In a list, ? is a size that is known only when the kernel runs.
 
-fn first_word<R: Print>(rt: &R) -> io::Result<()> {
-    say(
-        rt,
-        b"\nA Rattle program has no exit status (it is always 0): the first word of the output decides.\n",
-    )?;
-    say(rt, b"  accepted  what was asked follows\n")?;
-    say(rt, b"  refused   the refusal's number and meaning follow\n")?;
-    say(rt, b"  usage     the command was not understood\n")
-}
+A Rattle program has no exit status (it is always 0): the first word of the output decides.
+  accepted  what was asked follows
+  refused   the refusal's number and meaning follow
+  usage     the command was not understood
 
-fn refusals<R: Print>(rt: &R) -> io::Result<()> {
-    say(
-        rt,
-        b"\nRefusals (6 and 8 are of the library, and not met here):\n",
-    )?;
-    for i in 1..9u8 {
-        say(rt, b"  ")?;
-        meaning(rt, i)?;
+Refusals (6 and 8 are of the library, and not met here):
+";
+
+pub fn help<R: Print>(rt: &R) -> io::Result<()> {
+    println!(rt; "typetext: reads type texts of GPU tile kernels, and writes them\n")?;
+    print!(rt; "{SYNOPSIS}\n{WORDS}")?;
+    for refusal in [
+        Refusal::TooLong,
+        Refusal::HighByte,
+        Refusal::NoType,
+        Refusal::TooMany,
+        Refusal::NotStrict,
+        Refusal::NotNormal,
+        Refusal::NoText,
+        Refusal::RoomShort,
+    ] {
+        println!(rt; "  {}", meaning(refusal))?;
     }
     Ok(())
 }
 
-pub fn help<R: Print>(rt: &R) -> io::Result<()> {
-    say(
-        rt,
-        b"typetext: reads type texts of GPU tile kernels, and writes them\n\n",
-    )?;
-    synopsis(rt)?;
-    words(rt)?;
-    first_word(rt)?;
-    refusals(rt)
+// The first bytes of argument `i`.
+fn quote<R: Env + Print>(rt: &R, i: usize) -> io::Result<()> {
+    let mut room = [0u8; 64];
+    match rt.arg(i, &mut room) {
+        Ok(n) => print!(rt; "{}", Plain(&room[..n])),
+        // It leaves the first bytes.
+        Err(FillError::TooLong) => print!(rt; "{}...", Plain(&room)),
+        Err(FillError::NotPresent) => Ok(()),
+    }
+}
+
+fn unknown<R: Env + Print>(rt: &R, what: &str, i: usize) -> io::Result<()> {
+    print!(rt; "usage error: the {what} '")?;
+    quote(rt, i)?;
+    println!(rt; "' is not known here\n")
+}
+
+pub fn usage<R: Env + Print>(rt: &R, why: Usage) -> io::Result<()> {
+    match why {
+        Usage::UnknownCommand => unknown(rt, "command", 1)?,
+        Usage::UnknownOption(i) => unknown(rt, "option", i)?,
+        Usage::TooMany => {
+            println!(rt; "usage error: too many words; a text with blanks or < stands in quotes\n")?
+        }
+    }
+    print!(rt; "{SYNOPSIS}")
 }

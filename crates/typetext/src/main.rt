@@ -2,91 +2,72 @@
 #![tactic(auto)]
 
 mod counts;
-mod entries;
 mod help;
 mod refusal;
-mod say;
 mod text;
 mod types;
 mod words;
 
-use meaning::Reading;
-use say::say;
+use meaning::{Reading, Refusal};
 use std::env::Env;
-use std::io::{self, Input, Print};
+use std::io::{self, Input, Print, Write};
 use words::{Asked, Task};
 
 // The type and the counts, or the refusal.
 fn report<R: Print>(rt: &R, text: &[u8], r: Reading) -> io::Result<()> {
-    let why = r.refusal;
-    let value = r.value;
-    let note = r.note;
-    let number = why.number();
-    if number != 0 {
-        return refusal::refuse(rt, number, r.place, text);
+    match r.refusal {
+        Refusal::Accepted => {
+            println!(rt; "accepted")?;
+            types::fields(rt, &r.value)?;
+            counts::counts(rt, r.note)
+        }
+        refusal => refusal::refuse(rt, refusal, r.place, text),
     }
-    say(rt, b"accepted\n")?;
-    types::fields(rt, value)?;
-    counts::counts(rt, note)
-}
-
-fn reading(loose: bool, text: &[u8]) -> Reading {
-    if loose {
-        return ordinary::parse(text);
-    }
-    strict::parse_strict(text)
 }
 
 // The written text and the counts, or the refusal, of the reader or of the writer.
 fn write<R: Print>(rt: &R, text: &[u8], r: Reading) -> io::Result<()> {
     let mut room = [0u8; 1024];
-    let why = r.refusal;
-    let value = r.value;
-    let note = r.note;
-    let number = why.number();
-    if number != 0 {
-        return refusal::refuse(rt, number, r.place, text);
+    if let Refusal::Accepted = r.refusal {
+        let w = writer::write(r.value, &mut room);
+        let n = w.len.min(room.len());
+        return written(rt, w.refusal, &room[..n], r);
     }
-    let w = writer::write(value, &mut room);
-    let no = w.refusal;
-    let refused = no.number();
-    if refused != 0 {
-        return refusal::refuse(rt, refused, 0, text);
+    refusal::refuse(rt, r.refusal, r.place, text)
+}
+
+fn written<R: Print>(rt: &R, refusal: Refusal, text: &[u8], r: Reading) -> io::Result<()> {
+    match refusal {
+        Refusal::Accepted => {
+            println!(rt; "accepted")?;
+            io::writer(rt).write_all(text)?;
+            println!(rt)?;
+            counts::counts(rt, r.note)
+        }
+        // Only a reader's refusal has a place.
+        refusal => refusal::refuse(rt, refusal, 0, text),
     }
-    say(rt, b"accepted\n")?;
-    say(rt, text::prefix(&room, w.len))?;
-    say(rt, b"\n")?;
-    counts::counts(rt, note)
 }
 
 fn answer<R: Print>(rt: &R, task: Task, text: &[u8]) -> io::Result<()> {
     match task {
-        Task::Read => report(rt, text, reading(true, text)),
-        Task::Strict => report(rt, text, reading(false, text)),
-        Task::Write => write(rt, text, reading(false, text)),
-        Task::WriteLoose => write(rt, text, reading(true, text)),
+        Task::Read => report(rt, text, ordinary::parse(text)),
+        Task::Strict => report(rt, text, strict::parse_strict(text)),
+        Task::Write => write(rt, text, strict::parse_strict(text)),
+        Task::WriteLoose => write(rt, text, ordinary::parse(text)),
     }
-}
-
-fn carry_out<R: Env + Input + Print>(rt: &R, asked: Asked) -> io::Result<()> {
-    let mut room = [0u8; 2048];
-    let task = asked.task;
-    let n = text::given(rt, asked.at, &mut room);
-    answer(rt, task, text::prefix(&room, n))
 }
 
 fn run<R: Env + Input + Print>(rt: &R) -> io::Result<()> {
-    let asked = words::understand(rt)?;
-    if asked.understood {
-        carry_out(rt, asked)?;
+    let mut room = [0u8; 2048];
+    match words::understand(rt) {
+        Ok(Asked::Help) => help::help(rt),
+        Ok(Asked::Do(task, at)) => answer(rt, task, text::given(rt, at, &mut room)),
+        Err(why) => help::usage(rt, why),
     }
-    Ok(())
 }
 
 // What can't be written, as on a full disk or where nobody reads on, is left out: the exit status is 0, as the help says.
-fn main(rt: HostRuntime) -> io::Result<()> {
-    match run(&rt) {
-        Ok(()) => Ok(()),
-        Err(_) => Ok(()),
-    }
+fn main(rt: HostRuntime) {
+    let _ = run(&rt);
 }

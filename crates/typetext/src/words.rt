@@ -1,9 +1,5 @@
 // The words of the command line.
-use super::help::{help, synopsis};
-use super::say::{say, say_plainly};
-use super::text::prefix;
 use std::env::{Env, FillError};
-use std::io::{self, Print};
 
 #[derive(Clone, Copy)]
 pub enum Task {
@@ -13,20 +9,19 @@ pub enum Task {
     WriteLoose,
 }
 
-// What is to be done with argument `at`, or with standard input where that is 0; nothing where it isn't understood.
+// What is asked for: the help, or a task with the text at a place among the words, or with standard input.
 #[derive(Clone, Copy)]
-pub struct Asked {
-    pub understood: bool,
-    pub task: Task,
-    pub at: usize,
+pub enum Asked {
+    Help,
+    Do(Task, Option<usize>),
 }
 
-fn nothing() -> Asked {
-    Asked {
-        understood: false,
-        task: Task::Read,
-        at: 0,
-    }
+// Why the words aren't understood; an unknown option stands at a place among them.
+#[derive(Clone, Copy)]
+pub enum Usage {
+    UnknownCommand,
+    UnknownOption(usize),
+    TooMany,
 }
 
 // How many words there are, the program's name among them.
@@ -41,16 +36,12 @@ fn arg_count<R: Env>(rt: &R) -> usize {
 }
 
 // Whether argument `i` is this word.
-fn is<R: Env>(rt: &R, i: usize, word: &[u8]) -> bool {
+fn is<R: Env>(rt: &R, i: usize, word: &str) -> bool {
     let mut room = [0u8; 16];
     match rt.arg(i, &mut room) {
-        Ok(n) => lexis::same(prefix(&room, n), word),
+        Ok(n) => &room[..n] == word.as_bytes(),
         Err(_) => false,
     }
-}
-
-fn asks_help<R: Env>(rt: &R, i: usize) -> bool {
-    is(rt, i, b"--help") | is(rt, i, b"-h") | is(rt, i, b"help")
 }
 
 // No type text begins with `-`.
@@ -58,101 +49,50 @@ fn is_option<R: Env>(rt: &R, i: usize) -> bool {
     let mut room = [0u8; 1];
     match rt.arg(i, &mut room) {
         Err(FillError::NotPresent) => false,
-        _ => room[0] == b'-',
+        _ => room == *b"-",
     }
-}
-
-// The first bytes of argument `i`, in quotes.
-fn quote<R: Env + Print>(rt: &R, i: usize) -> io::Result<()> {
-    let mut room = [0u8; 64];
-    let got = rt.arg(i, &mut room);
-    say(rt, b"'")?;
-    match got {
-        Ok(n) => say_plainly(rt, prefix(&room, n))?,
-        // It leaves the first bytes.
-        Err(FillError::TooLong) => {
-            say_plainly(rt, &room)?;
-            say(rt, b"...")?;
-        }
-        Err(FillError::NotPresent) => {}
-    }
-    say(rt, b"'")
-}
-
-fn unknown<R: Env + Print>(rt: &R, what: &[u8], i: usize) -> io::Result<Asked> {
-    say(rt, b"usage error: ")?;
-    say(rt, what)?;
-    quote(rt, i)?;
-    say(rt, b" is not known here\n\n")?;
-    synopsis(rt)?;
-    Ok(nothing())
-}
-
-fn too_many<R: Print>(rt: &R) -> io::Result<Asked> {
-    say(
-        rt,
-        b"usage error: too many words; a text with blanks or < stands in quotes\n\n",
-    )?;
-    synopsis(rt)?;
-    Ok(nothing())
 }
 
 // The task, with its text at argument `at` as the last of `count` words.
-fn with_text<R: Env + Print>(rt: &R, task: Task, at: usize, count: usize) -> io::Result<Asked> {
+fn with_text<R: Env>(rt: &R, task: Task, at: usize, count: usize) -> Result<Asked, Usage> {
     if count <= at {
-        return Ok(Asked {
-            understood: true,
-            task,
-            at: 0,
-        });
+        return Ok(Asked::Do(task, None));
     }
-    if is(rt, at, b"--help") | is(rt, at, b"-h") {
-        help(rt)?;
-        return Ok(nothing());
+    if is(rt, at, "--help") || is(rt, at, "-h") {
+        return Ok(Asked::Help);
     }
     if is_option(rt, at) {
-        return unknown(rt, b"the option ", at);
+        return Err(Usage::UnknownOption(at));
     }
     if 1 < count - at {
-        return too_many(rt);
+        return Err(Usage::TooMany);
     }
-    Ok(Asked {
-        understood: true,
-        task,
-        at,
-    })
+    Ok(Asked::Do(task, Some(at)))
 }
 
-fn asks_write<R: Env + Print>(rt: &R, count: usize) -> io::Result<Asked> {
-    if is(rt, 2, b"--loose") {
+// `--loose` stands before the text, or behind it as the last word.
+fn asks_write<R: Env>(rt: &R, count: usize) -> Result<Asked, Usage> {
+    if is(rt, 2, "--loose") {
         return with_text(rt, Task::WriteLoose, 3, count);
     }
-    if is(rt, 3, b"--loose") {
-        if count == 4 {
-            return with_text(rt, Task::WriteLoose, 2, 3);
-        }
+    if count == 4 && is(rt, 3, "--loose") {
+        return with_text(rt, Task::WriteLoose, 2, 3);
     }
     with_text(rt, Task::Write, 2, count)
 }
 
-pub fn understand<R: Env + Print>(rt: &R) -> io::Result<Asked> {
+pub fn understand<R: Env>(rt: &R) -> Result<Asked, Usage> {
+    let mut room = [0u8; 16];
     let count = arg_count(rt);
-    if count < 2 {
-        help(rt)?;
-        return Ok(nothing());
+    match rt.arg(1, &mut room) {
+        Err(FillError::NotPresent) => Ok(Asked::Help),
+        Err(FillError::TooLong) => Err(Usage::UnknownCommand),
+        Ok(n) => match &room[..n] {
+            b"--help" | b"-h" | b"help" => Ok(Asked::Help),
+            b"read" => with_text(rt, Task::Read, 2, count),
+            b"strict" => with_text(rt, Task::Strict, 2, count),
+            b"write" => asks_write(rt, count),
+            _ => Err(Usage::UnknownCommand),
+        },
     }
-    if asks_help(rt, 1) {
-        help(rt)?;
-        return Ok(nothing());
-    }
-    if is(rt, 1, b"read") {
-        return with_text(rt, Task::Read, 2, count);
-    }
-    if is(rt, 1, b"strict") {
-        return with_text(rt, Task::Strict, 2, count);
-    }
-    if is(rt, 1, b"write") {
-        return asks_write(rt, count);
-    }
-    unknown(rt, b"the command ", 1)
 }

@@ -8,13 +8,7 @@ pub returns-then-not-in_order : goal.returns-then-not-in_order
 returns-then-not-in_order c = let a = c.args in
     L.end_refused 8 1024 (of_parts a.bytes.now a.len.now a.over.now) (sym c.in_order.ensures ∙ c.if-not-in_order.true) c.refuse.ensures
 
-pub read-r-requires : goal.read-r-requires
-read-r-requires c = sym c.in_order.ensures ∙ c.if-not-in_order.false
-
-pub clear-requires : goal.clear-requires
-clear-requires c = let a = c.args in
-    (L.ordered 1024 a.bytes.now a.len.now a.over.now (sym c.in_order.ensures ∙ c.if-not-in_order.false)).full
-
 pub returns : goal.returns
-returns c = let a = c.args in
-    L.end_answered 8 1024 (of_parts a.bytes.now a.len.now a.over.now) (sym c.in_order.ensures ∙ c.if-not-in_order.false) c.read-r.ensures (L.emptied 1024 c.clear.ensures)
+returns c = let a = c.args in let y = sym c.in_order.ensures ∙ c.if-not-in_order.false in
+    L.end_answered 8 1024 (of_parts a.bytes.now a.len.now a.over.now) y c.read-r.ensures
+    (L.emptied 1024 (L.cleared 1024 a.bytes.now (L.ordered 1024 a.bytes.now a.len.now a.over.now y).full (c.fill.ensures.after (λ z h. h))))

@@ -1,9 +1,9 @@
--- The rest of the text gets shorter, since an escape has a byte or more.
-use Rattle.std.proofs.Common.{◌≡◌, length}
+-- The rest of the text gets shorter, and what it stands for so far lies in the room.
+use Rattle.std.proofs.Common.{◌≤◌, length}
 use Rattle.replay.proofs.row.unescape.Given as goal
 
-abbrev pub invariant-loop-t : goal.invariant-loop-t
-invariant-loop-t l = length l.out ≡ length l.initial.out
+abbrev pub invariant-loop-b : goal.invariant-loop-b
+invariant-loop-b l = l.n ≤ length l.room
 
-abbrev pub decreases-loop-t : goal.decreases-loop-t
-decreases-loop-t l = length l.t
+abbrev pub decreases-loop-b : goal.decreases-loop-b
+decreases-loop-b l = length l.t
