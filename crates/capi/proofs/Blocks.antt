@@ -3,7 +3,6 @@ use Prim.Native.Nat.{ℕ, ◌+◌, ◌≤◌}
 use native.Mathlib.Omega.{arith}
 use mathlib.Core.Bool.{Bool, true, false, ◌&&◌, false≢true}
 use mathlib.Core.List.{◌++◌, append-nil}
-use mathlib.Core.Option.{none, some}
 use mathlib.Core.Path.{◌≡◌, refl, sym, ap, ◌∙◌}
 use borrow.Rule.Slice.PartMut.{put_mid}
 use borrow.Author.Tests.{eqb-true, eq-eqb, ne_eqb}
@@ -18,7 +17,7 @@ use Rattle.meaning.specs.declared.Refusal.TheVariants.{Accepted, TooLong, HighBy
 use Rattle.numbers.specs.Numbers.{in_numbers}
 use Rattle.meaning.specs.declared.Reading.{Reading}
 use Rattle.collector.specs.declared.Collector.{Collector}
-use Rattle.std.specs.Prelude.{Ok, Err}
+use Rattle.std.specs.Prelude.{Ok, Err, None, Some}
 use Rattle.collector.specs.declared.Refused.{Refused}
 use Rattle.collector.specs.declared.Refused.TheVariants.{NotInOrder}
 use Rattle.collector.specs.Collecting.{Fed, in_order, fresh, number, told, fed, answered, ended}
@@ -74,7 +73,7 @@ module _ (size : ℕ) (b : Text) where
   pub by_mark : length b ≡ size + 3 → leb (get_or b (size + 2) 0) 1 ≡ formed size b
   by_mark h = rw (eq-eqb (length b) (size + 3) h)
 
-  pub unformed : formed size b ≡ false → lent size b ≡ none
+  pub unformed : formed size b ≡ false → lent size b ≡ None
   unfolding lent
   unformed e = rw e
 
@@ -84,11 +83,11 @@ module _ (size : ℕ) (b : Text) where
   pub end_none : (r : Reading) → formed size b ≡ false → r ≡ refused 8 NotNormal 0 → (in_numbers r ≡ in_numbers (read_block 8 size (lent size b))) × (b ≡ ended_block size b (lent size b))
   end_none r e g = rw (unformed e) (ap in_numbers g, refl)
 
-  not_lent : formed size b ≡ true → in_order size (of_block size b) ≡ false → lent size b ≡ none
+  not_lent : formed size b ≡ true → in_order size (of_block size b) ≡ false → lent size b ≡ None
   unfolding lent
   not_lent f e = rw (f, e)
 
-  is_lent : formed size b ≡ true → in_order size (of_block size b) ≡ true → lent size b ≡ some (of_block size b)
+  is_lent : formed size b ≡ true → in_order size (of_block size b) ≡ true → lent size b ≡ Some (of_block size b)
   unfolding lent
   is_lent f e = rw (f, e)
 

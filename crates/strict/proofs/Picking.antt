@@ -2,7 +2,7 @@
 use Prim.Native.Nat.{ℕ}
 use mathlib.Core.Bool.{Bool, true, false, cond}
 use mathlib.Core.List.{List, [], ◌∷◌, ◌++◌}
-use Rattle.std.specs.Prelude.{Option, None, Some}
+use mathlib.Core.Option.{Option, none, some}
 use mathlib.Core.Path.{◌≡◌, refl, ap, ◌∙◌}
 use lib.Dec.{eqb}
 use Rattle.grammar.specs.Piece.{Answer}
@@ -12,8 +12,8 @@ use Rattle.strict.specs.Words.{among, relabel}
 
 module _ {A B : Type 0} (f : A → B) where
   abbrev may : Option A → Option B
-  may None = None
-  may (Some a) = Some (f a)
+  may none = none
+  may (some a) = some (f a)
 
   done_label : (es : List (Entry A)) → done (relabel f es) ≡ may (done es)
   done_label [] = refl
@@ -36,8 +36,8 @@ module _ {A B : Type 0} (f : A → B) where
           on false = q
 
   settle_label : (o : Option A) (r : List ℕ) → settle (may o) r ≡ mapped f (settle o r)
-  settle_label None r = refl
-  settle_label (Some a) r = refl
+  settle_label none r = refl
+  settle_label (some a) r = refl
 
   pub pick_label : (t : List ℕ) (es : List (Entry A)) → pick t (relabel f es) ≡ mapped f (pick t es)
   pick_label [] es = ap (λ (z : Option B). settle z []) (done_label es) ∙ settle_label (done es) []

@@ -2,7 +2,6 @@
 ghost use Rattle.meaning.specs.Meant.{Strictly};
 
 use super::judge::judge;
-use lexis::Found;
 use meaning::{Reading, Refusal, first_high, refuse};
 
 // The type of a strict form; or the refusal 1, 2, 5 or 4, the first that applies. No strict form has a byte of 128 or more, so that such a
@@ -14,12 +13,11 @@ pub fn parse_strict(text: &[u8]) -> Reading
         return refuse(Refusal::TooLong, 0);
     }
     let r = judge(text);
-    let refusal = r.refusal;
-    if refusal.number() == 0 {
+    if r.refusal == Refusal::Accepted {
         return r;
     }
     match first_high(text) {
-        Found::At(place) => refuse(Refusal::HighByte, place),
-        Found::Nowhere => r,
+        Some(place) => refuse(Refusal::HighByte, place),
+        None => r,
     }
 }

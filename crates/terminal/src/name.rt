@@ -1,6 +1,5 @@
 // The name of a scalar.
-ghost use Rattle.std.specs.Prelude.{◌≡◌};
-ghost use Rattle.std.proofs.Math.Option.{some};
+ghost use Rattle.std.specs.Prelude.{◌≡◌, Some};
 ghost use Rattle.scalars.specs.Names.{scalar_name};
 
 use scalars::Scalar;
@@ -8,7 +7,7 @@ use scalars::Scalar;
 // A scalar's name: the name reader gives the scalar back.
 #[tactic(auto, unfolding(scalars::specs::Names::scalar_name))]
 pub fn scalar_name(s: Scalar) -> &'static str
-    ensures { scalar_name result.now ≡ some s }
+    ensures { scalar_name result.now ≡ Some s }
 {
     match s {
         Scalar::I1 => "i1",

@@ -1,9 +1,8 @@
 -- The call's four answers, each from the test that leads to it; a normal record is small.
-use Rattle.std.specs.Prelude.{if◌then◌else◌}
+use Rattle.std.specs.Prelude.{if◌then◌else◌, Option, None, Some}
 use Prim.Native.Nat.{ℕ, ◌≤◌}
 use native.Mathlib.Omega.{arith}
 use mathlib.Core.Bool.{Bool, true, false}
-use mathlib.Core.Option.{Option, none, some}
 use mathlib.Core.Path.{◌≡◌, sym, ap, ◌∙◌}
 use lib.ListN.{length}
 use Rattle.lexis.specs.Text.{Text}
@@ -57,7 +56,7 @@ abbrev normal_or : Bool → Record → Text → Outcome
 normal_or b r room = if b then texted (written r) room else refused NotNormal room
 
 abbrev shown_or : Bool → Record → Text → Outcome
-shown_or b r room = texted (if b then some (text r) else none) room
+shown_or b r room = texted (if b then Some (text r) else None) room
 
 pub not_normal : (cap : ℕ) (r : Record) (room : Text) → normal cap r ≡ false → refused NotNormal room ≡ writing cap r room
 unfolding writing

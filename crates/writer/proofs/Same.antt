@@ -1,11 +1,10 @@
 -- The text laid down part by part is the spelling of the form, and there is a form exactly where the lengths say so: by cases on the lists.
-use Rattle.std.specs.Prelude.{if◌then◌else◌}
+use Rattle.std.specs.Prelude.{if◌then◌else◌, Option, None, Some}
 use Prim.Native.Nat.{ℕ, zero, suc, ◌<◌}
 use native.Mathlib.Omega.{arith}
 use mathlib.Core.Bool.{Bool, true, false, ◌&&◌, ◌||◌, not}
 use Rattle.std.proofs.Math.Bool.{not-not}
 use mathlib.Core.List.{List, [], ◌∷◌, ◌++◌, map, append_assoc}
-use mathlib.Core.Option.{Option, none, some}
 use mathlib.Core.Path.{◌≡◌, refl, ap, ◌∙◌}
 use lib.Dec.{eqb, eqb-suc-zero}
 use lib.IntN.{ℤ}
@@ -45,10 +44,10 @@ filled (z ∷ zs) = true
 
 -- ── the tensor view: where there is one, its content ──
 Tells : Option Tensor → Bool → Text → Type 0
-Tells none true x = ⊥
-Tells none false x = Unit {0}
-Tells (some t) true x = F.body t ≡ x
-Tells (some t) false x = ⊥
+Tells None true x = ⊥
+Tells None false x = Unit {0}
+Tells (Some t) true x = F.body t ≡ x
+Tells (Some t) false x = ⊥
 
 abbrev fine : List ℤ → List ℤ → Bool
 fine ds zs = filled zs || not (filled ds)
@@ -64,14 +63,14 @@ abbrev spelt : Option Form → Option Text
 spelt o = each spell o
 
 abbrev either : Bool → Text → Option Text
-either b x = if b then some x else none
+either b x = if b then Some x else None
 
 tensor_law : (o : Option Tensor) (b : Bool) (x : Text) → Tells o b x → spelt (each (F.tensor true) o) ≡ either b (bytes "!cuda_tile.tensor_view<" ⊕ x ⊕ bytes ">")
 unfolding Tells
-tensor_law none true x k = absurd k
-tensor_law none false x k = refl
-tensor_law (some t) true x k = rw k
-tensor_law (some t) false x k = absurd k
+tensor_law None true x k = absurd k
+tensor_law None false x k = refl
+tensor_law (Some t) true x k = rw k
+tensor_law (Some t) false x k = absurd k
 
 module _ (p : Padding) where
   abbrev inner : Text → Text
@@ -82,33 +81,33 @@ module _ (p : Padding) where
       ≡ either (filled ts && b && filled ms) (bytes "!cuda_tile.partition_view<" ⊕ lead_text ts ⊕ inner x ⊕ map_text ms)
   unfolding Tells clause sparse_text
   partition_law [] o b x ms k = refl
-  partition_law (t ∷ ts) none true x ms k = absurd k
-  partition_law (t ∷ ts) none false x ms k = refl
-  partition_law (t ∷ ts) (some v) false x ms k = absurd k
-  partition_law (t ∷ ts) (some v) true x [] k = refl
-  partition_law (t ∷ ts) (some v) true x (m ∷ ms) k = simp (k, append_assoc, xrest_is ts, rest_is decimal (λ z. z) ms)
+  partition_law (t ∷ ts) None true x ms k = absurd k
+  partition_law (t ∷ ts) None false x ms k = refl
+  partition_law (t ∷ ts) (Some v) false x ms k = absurd k
+  partition_law (t ∷ ts) (Some v) true x [] k = refl
+  partition_law (t ∷ ts) (Some v) true x (m ∷ ms) k = simp (k, append_assoc, xrest_is ts, rest_is decimal (λ z. z) ms)
 
   gather_law : (ts : List ℤ) (o : Option Tensor) (b : Bool) (x : Text) (z : ℤ) → Tells o b x →
       spelt (each (λ v. F.gather v z) (view_of p ts o))
       ≡ either (filled ts && b) (bytes "!cuda_tile.gather_scatter_view<" ⊕ lead_text ts ⊕ inner x ⊕ sparse_text z)
   unfolding Tells clause sparse_text
   gather_law [] o b x z k = refl
-  gather_law (t ∷ ts) none true x z k = absurd k
-  gather_law (t ∷ ts) none false x z k = refl
-  gather_law (t ∷ ts) (some v) false x z k = absurd k
-  gather_law (t ∷ ts) (some v) true x z k = simp (k, append_assoc, xrest_is ts)
+  gather_law (t ∷ ts) None true x z k = absurd k
+  gather_law (t ∷ ts) None false x z k = refl
+  gather_law (t ∷ ts) (Some v) false x z k = absurd k
+  gather_law (t ∷ ts) (Some v) true x z k = simp (k, append_assoc, xrest_is ts)
 
   strided_law : (ts : List ℤ) (o : Option Tensor) (b : Bool) (x : Text) (ws ms : List ℤ) → Tells o b x →
       spelt (view_of p ts o >>= λ v. listed (λ z. z) ws >>= λ t. each (F.strided v t true) (listed (λ z. z) ms))
       ≡ either (filled ts && b && filled ws && filled ms) (bytes "!cuda_tile.strided_view<" ⊕ lead_text ts ⊕ travel_text ws ⊕ inner x ⊕ map_text ms)
   unfolding Tells clause sparse_text
   strided_law [] o b x ws ms k = refl
-  strided_law (t ∷ ts) none true x ws ms k = absurd k
-  strided_law (t ∷ ts) none false x ws ms k = refl
-  strided_law (t ∷ ts) (some v) false x ws ms k = absurd k
-  strided_law (t ∷ ts) (some v) true x [] ms k = refl
-  strided_law (t ∷ ts) (some v) true x (w ∷ ws) [] k = refl
-  strided_law (t ∷ ts) (some v) true x (w ∷ ws) (m ∷ ms) k = simp (k, append_assoc, xrest_is ts, rest_is decimal (λ z. z) ws, rest_is decimal (λ z. z) ms)
+  strided_law (t ∷ ts) None true x ws ms k = absurd k
+  strided_law (t ∷ ts) None false x ws ms k = refl
+  strided_law (t ∷ ts) (Some v) false x ws ms k = absurd k
+  strided_law (t ∷ ts) (Some v) true x [] ms k = refl
+  strided_law (t ∷ ts) (Some v) true x (w ∷ ws) [] k = refl
+  strided_law (t ∷ ts) (Some v) true x (w ∷ ws) (m ∷ ms) k = simp (k, append_assoc, xrest_is ts, rest_is decimal (λ z. z) ws, rest_is decimal (λ z. z) ms)
 
 -- ── the record ──
 -- each array has an entry
@@ -129,7 +128,7 @@ plain_law x true = refl
 plain_law x false = refl
 
 tile_law : (p : Bool) (m : Bool) (e : Scalar) (ds : List ℤ) →
-    spelt (if p then some (F.tile true (map dimension_of ds) (F.pointer (record { front = true; name = first e; marked = m })))
+    spelt (if p then Some (F.tile true (map dimension_of ds) (F.pointer (record { front = true; name = first e; marked = m })))
     else unless m (F.tile true (map dimension_of ds) (F.plain (first e))))
     ≡ either (p || not m) (bytes "!cuda_tile.tile<" ⊕ shaped ds ⊕ element_text p e m ⊕ bytes ">")
 tile_law true m e ds = simp (shaped_is ds)
@@ -164,6 +163,6 @@ same_as K.Strided r w =
     && counted r.traversal_len r.traversal w.traversal i && counted r.map_len r.map w.map i) (text_as K.Strided r)
 same_as K.Token r w = plain_law (F.token true) r.attribute
 
-pub same : (r : Record) → Whole r → written r ≡ if shown r then some (text r) else none
+pub same : (r : Record) → Whole r → written r ≡ if shown r then Some (text r) else None
 unfolding written
 same r w = same_as r.kind r w
