@@ -98,7 +98,7 @@ pass n s = go (cut the_mark (trim s))
 -- a text that is trimmed, and isn't empty
 pub record Trimmed (t : List ℕ) : Type 0 where
   pub same : trim t ≡ t
-  pub Some : T (not (vacant t))
+  pub some : T (not (vacant t))
 
 -- enough passes for a mark
 long : (t : List ℕ) → T (not (vacant t)) → (R : Option Found) → ((k : ℕ) → passes (suc (suc k)) t ≡ R) → parse t ≡ R

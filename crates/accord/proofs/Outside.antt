@@ -63,13 +63,13 @@ dispatch false strided i h = applies _ W.strided_view i h
 -- ── nothing is to trim ──
 -- what is trimmed at its end is trimmed
 begun : (b : Bool) (f : Bracketed) (s : List ℕ) → less_trailing white (cuda b ⊕ opening f ⊕ s) ≡ cuda b ⊕ opening f ⊕ s → Trimmed (cuda b ⊕ opening f ⊕ s)
-begun true f s e = record { same = e; Some = tt }
-begun false tile s e = record { same = e; Some = tt }
-begun false tensor s e = record { same = e; Some = tt }
-begun false pointer s e = record { same = e; Some = tt }
-begun false partition s e = record { same = e; Some = tt }
-begun false gather s e = record { same = e; Some = tt }
-begun false strided s e = record { same = e; Some = tt }
+begun true f s e = record { same = e; some = tt }
+begun false tile s e = record { same = e; some = tt }
+begun false tensor s e = record { same = e; some = tt }
+begun false pointer s e = record { same = e; some = tt }
+begun false partition s e = record { same = e; some = tt }
+begun false gather s e = record { same = e; some = tt }
+begun false strided s e = record { same = e; some = tt }
 
 ended : (t : List ℕ) → less_trailing white (t ++ bytes ">") ≡ t ++ bytes ">"
 ended [] = refl

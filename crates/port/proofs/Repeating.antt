@@ -9,7 +9,6 @@ use mathlib.Core.List.{List, [], ◌∷◌, ◌++◌}
 use mathlib.Core.Path.{◌≡◌, refl, sym, ap, ◌∙◌}
 use lib.Dec.{eqb, leb}
 use lib.ListN.{length, take, drop, length-drop}
-use lib.Seq.{take-add, length-take-le}
 use borrow.Author.Tests.{eq-eqb, leb-true, leb-false}
 use Rattle.lexis.specs.Text.{begins}
 use Rattle.lexis.proofs.Seeking.{begins_within, turned}

@@ -2,7 +2,6 @@
 use Rattle.std.specs.Prelude.{if◌then◌else◌, Option, None, Some}
 use Prim.Native.Nat.{ℕ, zero, suc, ◌+◌, ◌-◌, ◌≤◌, ◌<◌}
 use native.Mathlib.Nat.{add-zero}
-use native.Mathlib.Numerals.{add-one}
 use native.Mathlib.Omega.{arith}
 use mathlib.Core.Bool.{Bool, true, false, ◌&&◌, ◌||◌, false≢true}
 use mathlib.Core.List.{[], ◌∷◌}
@@ -13,7 +12,7 @@ use lib.ListN.{length, take, drop, get_or, length-take}
 use lib.Seq.{get_or-drop, take_all}
 use Rattle.lexis.specs.Text.{Text, begins, after, Cut, nowhere, at, later, cut, place, some_of}
 use Rattle.lexis.proofs.Seeking.{never, right, shifted, unshifted, hit, cut_within}
-use Rattle.lexis.proofs.Passing.{one_later, }
+use Rattle.lexis.proofs.Passing.{one_later}
 use Rattle.port.specs.Seen.{seen}
 
 -- ── a text at the front of the first bytes ──

@@ -5,7 +5,6 @@ ghost use Rattle.meaning.specs.Parts.{remove};
 ghost use Rattle.meaning.specs.Ordinary.{mark};
 ghost use Rattle.port.specs.Passes.{Rewritten};
 
-
 // The place of the first mark. A mark has a `#`, and its one `>` at its end: by these two it is sought.
 pub(crate) fn find_mark(text: &[u8]) -> Option<usize>
     ensures { result ≡ place (cut mark text.now) }

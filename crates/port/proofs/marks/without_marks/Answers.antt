@@ -1,5 +1,5 @@
 -- `without_marks` meets its contract: the marks are removed where there is one; else the text is as it should be.
-use mathlib.Core.Path.{sym, ap, ◌∙◌}
+use mathlib.Core.Path.{sym, ◌∙◌}
 use borrow.Author.Rules.{rules}
 use Rattle.port.proofs.Marking as L
 use Rattle.port.proofs.marks.without_marks.Goals as goal

@@ -1,5 +1,5 @@
 -- `trim_end_repeats` meets its contract: what the library strips is dropped; what it leaves stays.
-use Rattle.std.proofs.Common.{rules, arith, sym, ap, ◌∙◌, ◌≤◌, length}
+use Rattle.std.proofs.Common.{arith, sym, ap, ◌∙◌, ◌≤◌, length}
 use Rattle.meaning.specs.Parts.{less_repeats}
 use Rattle.port.proofs.Repeating as L
 use Rattle.port.proofs.repeats.trim_end_repeats.Goals as goal

@@ -1,5 +1,5 @@
 -- `parse_bare` meets its contract: the name decides.
-use mathlib.Core.Path.{sym, ap, ◌∙◌}
+use mathlib.Core.Path.{sym, ◌∙◌}
 use Rattle.port.proofs.Dispatching as L
 use Rattle.port.proofs.types.parse_bare.Goals as goal
 

@@ -1,5 +1,5 @@
 -- `parse_ptr` meets its contract: the name decides.
-use mathlib.Core.Path.{sym, ap, ◌∙◌}
+use mathlib.Core.Path.{sym, ◌∙◌}
 use Rattle.port.proofs.Dispatching as L
 use Rattle.port.proofs.types.parse_ptr.Goals as goal
 

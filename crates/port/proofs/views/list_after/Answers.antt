@@ -1,5 +1,5 @@
 -- `list_after` meets its contract: the prefix was sighted, then the `]` behind it is found.
-use mathlib.Core.Path.{sym, ap, ◌∙◌}
+use mathlib.Core.Path.{sym, ◌∙◌}
 use native.Mathlib.Omega.{arith}
 use borrow.Author.Rules.{rules}
 use Rattle.lexis.specs.Text.{bytes}

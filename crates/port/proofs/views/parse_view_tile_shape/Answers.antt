@@ -1,5 +1,5 @@
 -- `parse_view_tile_shape` meets its contract: `tile=(` was sighted, then the `)` behind it is found.
-use mathlib.Core.Path.{sym, ap, ◌∙◌}
+use mathlib.Core.Path.{sym, ◌∙◌}
 use native.Mathlib.Omega.{arith}
 use borrow.Author.Rules.{rules}
 use Rattle.lexis.specs.Text.{bytes}
