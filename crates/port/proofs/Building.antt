@@ -63,7 +63,7 @@ module _ (x : Viewed) {m t s : Laid} (k : Kind) (map traversal sparse : Clause) 
       (λ i. built k (q i).tensor.element false (q i).tensor.shape (q i).tensor.strides (q i).tile (d i) (f i) (g i) (q i).padding) ∙
       laid_built k v.tensor.element false v.tensor.shape v.tensor.strides (stands v.tile) map traversal sparse v.padding
 
--- ── what was found, where the code says that something was ──
+-- ── what was found, where the code has something ──
 
 -- x is f of the value that o has
 pub record Has {A B : Type 0} (f : A → B) (o : Option A) (x : B) : Type 0 where
@@ -71,20 +71,11 @@ pub record Has {A B : Type 0} (f : A → B) (o : Option A) (x : B) : Type 0 wher
   pub is : o ≡ Some value
   pub same : x ≡ f value
 
-module _ {A B : Type 0} (f : A → B) (x : B) (o : Option A) {d : Bool} (e : (if d then Some x else None) ≡ each f o) where
-  taken : {b : Bool} → d ≡ b → (if b then Some x else None) ≡ each f o
-  taken t = sym (ap (λ (b : Bool). if b then Some x else None) t) ∙ e
+module _ {A B : Type 0} (f : A → B) where
+  pub has : {x : B} (o : Option A) → Some x ≡ each f o → Has f o x
+  has None e = let z : ◌≡◌ {A = ℕ} 0 1 = cc in let f : ⊥ = omega arith in absurd f
+  has (Some a) e = record { value = a; is = refl; same = cc }
 
-  pub has : d ≡ true → Has f o x
-  has t = by o (taken t)
-    where
-      by : (o : Option A) → Some x ≡ each f o → Has f o x
-      by None e = let z : ◌≡◌ {A = ℕ} 0 1 = cc in let f : ⊥ = omega arith in absurd f
-      by (Some a) e = record { value = a; is = refl; same = cc }
-
-  pub lacks : d ≡ false → o ≡ None
-  lacks t = by o (taken t)
-    where
-      by : (o : Option A) → None ≡ each f o → o ≡ None
-      by None e = refl
-      by (Some a) e = let z : ◌≡◌ {A = ℕ} 0 1 = cc in let f : ⊥ = omega arith in absurd f
+  pub lacks : (o : Option A) → None ≡ each f o → o ≡ None
+  lacks None e = refl
+  lacks (Some a) e = let z : ◌≡◌ {A = ℕ} 0 1 = cc in let f : ⊥ = omega arith in absurd f

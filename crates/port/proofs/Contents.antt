@@ -14,11 +14,12 @@ use Rattle.meaning.specs.Parts.{each, less_final, content, bracketed}
 use Rattle.port.specs.Seen.{told}
 use Rattle.port.specs.Keys.{Placed, Scanned, Contained}
 use Rattle.port.specs.Carried.{Told}
+use Rattle.port.specs.declared.brackets.Content.{Content}
 use Rattle.port.specs.declared.keys.Places.{Places}
 use Rattle.port.specs.declared.survey.Scanning.{Scanning}
 use Rattle.port.proofs.Sighting as L
 use Rattle.port.proofs.Placing as U
-use Rattle.port.proofs.Bracketing.{final_none, final_some, final_other, matched, unmatched, foreign, opening, bracketed_at}
+use Rattle.port.proofs.Bracketing.{final_none, final_some, final_other, matched, unmatched, foreign, opening, content_is, bracketed_none}
 
 -- ── by the scan ──
 
@@ -56,22 +57,21 @@ module _ {s : Text} {r : Scanning} (g : Scanned s r) where
 -- ── a form that opens with p ──
 
 module _ (p s : Text) where
-  pub foreign_form : begins p s ≡ false → {k : Places} → Told p s (record { applies = false; len = 0; places = k })
-  foreign_form e = record { is = sym (foreign p s e); places = λ t. absurd (false≢true t) }
+  pub foreign_form : begins p s ≡ false → Told p s None
+  foreign_form e = record { is = bracketed_none p s (sym (foreign p s e)) }
 
   abbrev behind : Text
   behind = take (length s - length p) (drop (length p) s)
 
-  pub scanned_form : begins p s ≡ true → {r : Scanning} → Contained behind r → Told p s (record { applies = ltb r.end (length behind); len = r.end; places = r.places })
-  scanned_form e {r} g = record {
-    is = long;
-    places = λ t c q.
-        let h = ltb-true r.end (length behind) t in
+  module _ (e : begins p s ≡ true) {r : Scanning} (g : Contained behind r) where
+    long : told (length behind) r.end ≡ each length (bracketed p s)
+    long = g.end ∙ sym (opening p s e)
+
+    pub scanned_form : {c : Content} → r.end < length behind → c.inner.now ≡ take r.end behind → c.places ≡ r.places → Told p s (Some c)
+    scanned_form {c} h i k =
         let n : each length (bracketed p s) ≡ Some r.end = sym long ∙ L.told_some (length behind) r.end h in
-        let k : Some (take r.end (drop (length p) s)) ≡ Some c = sym (bracketed_at p s r.end n) ∙ q in
-        let w : take r.end (drop (length p) s) ≡ c = cc in
-        subst (λ (c : Text). Placed c r.places) (ap (take r.end) (rest s (length p)) ∙ w) (g.places h);
-  }
-    where
-      long : told (length behind) r.end ≡ each length (bracketed p s)
-      long = g.end ∙ sym (opening p s e)
+        let w : Placed (take r.end behind) c.places = subst (λ (q : Places). Placed (take r.end behind) q) (sym k) (g.places h) in
+        record { is = (content_is p s r.end n ∙ ap Some (sym i), subst (λ (t : Text). Placed t c.places) (sym i) w) }
+
+    pub unscanned_form : length behind ≤ r.end → Told p s None
+    unscanned_form h = record { is = bracketed_none p s (sym long ∙ L.told_none (length behind) r.end h) }

@@ -26,7 +26,7 @@ use Rattle.port.specs.declared.tensor_view.Tensor.{Tensor}
 use Rattle.port.specs.Carried as C
 use Rattle.port.specs.Carried.{carried, fell, Tensored, tensored, TensorIs}
 use Rattle.port.proofs.Making.{sound_list}
-use Rattle.port.proofs.Building.{bare, tensor_is, has, lacks}
+use Rattle.port.proofs.Building.{bare, tensor_is, Has, has, lacks}
 
 -- ── a cut, by the place that the code found ──
 
@@ -71,22 +71,22 @@ module _ (s : Text) (strides : Option Text) where
 
   pub tensor_read : {e : Scalar} {a b : (Listing (List ℤ))} → scalar_name (behind s) ≡ Some e
       → list a ≡ laid 8 (dimensions (sizes s)) → list b ≡ laid 8 (strides_of (length (sizes s)) strides)
-      → TensorIs (record { found = true; element = e; shape = a; strides = b }) (tensor_parts s strides)
+      → TensorIs (Some (record { element = e; shape = a; strides = b })) (tensor_parts s strides)
   tensor_read {e} n q r = rw (by_element n) (record { is = λ i. Some (record { element = e; shape = q i; strides = r i }) })
 
-  pub tensor_none : {r : Tensor} → scalar_name (behind s) ≡ None → TensorIs r None → TensorIs r (tensor_parts s strides)
-  tensor_none n t = rw (by_element n) t
+  pub tensor_none : {r : Option Tensor} → scalar_name (behind s) ≡ None → r ≡ None → TensorIs r (tensor_parts s strides)
+  tensor_none n t = rw (t, by_element n) (record { is = refl })
 
 pub strides_read : {l : Laid} (s t u : Text) → t ≡ less_leading (eqb 91) s → u ≡ less_trailing (eqb 93) t → l ≡ laid 8 (dimensions (split 44 u))
     → l ≡ laid 8 (dimensions (stride_parts s))
 unfolding stride_parts
 strides_read s t u p q e = e ∙ ap (λ (v : Text). laid 8 (dimensions (split 44 v))) (q ∙ ap (less_trailing (eqb 93)) p)
 
-pub strides_rest : {r : Tensor} (u s : Text) (k : ℕ) → TensorIs r (tensor_parts u (Some (take (length s - k) (drop k s)))) → TensorIs r (tensor_parts u (Some (drop k s)))
+pub strides_rest : {r : Option Tensor} (u s : Text) (k : ℕ) → TensorIs r (tensor_parts u (Some (take (length s - k) (drop k s)))) → TensorIs r (tensor_parts u (Some (drop k s)))
 strides_rest {r} u s k = subst (λ (t : Text). TensorIs r (tensor_parts u (Some t))) (rest s k)
 
 -- by the first `, strides=`, else by the first `,strides=`
-module _ {r : Tensor} (s : Text) where
+module _ {r : Option Tensor} (s : Text) where
   pub strides_first : {u t : Text} → cut (bytes ", strides=") s ≡ at u t → TensorIs r (tensor_parts u (Some t)) → TensorIs r (tensor s)
   unfolding tensor
   strides_first e h = subst (TensorIs r) (sym (ap (λ (c : Cut). tensor_by s c (cut (bytes ",strides=") s)) e)) h
@@ -100,18 +100,19 @@ module _ {r : Tensor} (s : Text) where
     unfolding tensor
     strides_nowhere e h = subst (TensorIs r) (sym (λ i. tensor_by s (n i) (e i))) h
 
-module _ (s : Text) (t : Tensor) (h : TensorIs t (tensor s)) where
-  pub view_none : t.found ≡ false → None ≡ each (carried 8) (tensor_view s)
+module _ (s : Text) {r : Option Tensor} (h : TensorIs r (tensor s)) where
+  pub view_none : r ≡ None → None ≡ each (carried 8) (tensor_view s)
   unfolding tensor_view
-  view_none e = sym (ap (λ (o : Option T.Tensor). each (carried 8) (each tensor_found o)) (lacks (tensored 8) (C.tensor_parts t) (tensor s) h.is e))
+  view_none e = sym (ap (λ (o : Option T.Tensor). each (carried 8) (each tensor_found o)) (lacks (tensored 8) (tensor s) (rw e at h.is)))
 
-  pub view_some : t.found ≡ true → Some (bare K.TensorView t.element false (list t.shape) (list t.strides)) ≡ each (carried 8) (tensor_view s)
-  unfolding tensor_view
-  view_some e =
-      let v = has (tensored 8) (C.tensor_parts t) (tensor s) h.is e in
-      ap Some (tensor_is (C.tensor_parts t) v.value v.same) ∙ sym (ap (λ (o : Option T.Tensor). each (carried 8) (each tensor_found o)) v.is)
+  module _ {t : Tensor} (e : r ≡ Some t) where
+    its : Has (tensored 8) (tensor s) (C.tensor_parts t)
+    its = has (tensored 8) (tensor s) (rw e at h.is)
 
-  pub view_sound : t.found ≡ true → (fell (list t.shape) ≤ t.shape.row.len) × (fell (list t.strides) ≤ t.strides.row.len)
-  view_sound e =
-      let v = has (tensored 8) (C.tensor_parts t) (tensor s) h.is e in
-      (sound_list v.value.shape (ap (λ (x : Tensored). x.shape) v.same), sound_list v.value.strides (ap (λ (x : Tensored). x.strides) v.same))
+    pub view_some : Some (bare K.TensorView t.element false (list t.shape) (list t.strides)) ≡ each (carried 8) (tensor_view s)
+    unfolding tensor_view
+    view_some =
+        ap Some (tensor_is (C.tensor_parts t) its.value its.same) ∙ sym (ap (λ (o : Option T.Tensor). each (carried 8) (each tensor_found o)) its.is)
+
+    pub view_sound : (fell (list t.shape) ≤ t.shape.row.len) × (fell (list t.strides) ≤ t.strides.row.len)
+    view_sound = (sound_list its.value.shape (ap (λ (x : Tensored). x.shape) its.same), sound_list its.value.strides (ap (λ (x : Tensored). x.strides) its.same))

@@ -18,8 +18,8 @@ use Rattle.meaning.specs.declared.Kind.TheVariants as K
 use Rattle.meaning.specs.declared.Reading.{Reading}
 use Rattle.port.specs.Carried.{carried, answered, Told}
 use Rattle.port.specs.Forms.{shorthand, unprefixed, bare, first_of}
-use Rattle.port.specs.declared.brackets.Applied.{Applied}
-use Rattle.port.proofs.Bracketing.{bracketed_none}
+use Rattle.port.specs.declared.brackets.Content.{Content}
+use Rattle.port.specs.Keys.{Placed}
 use Rattle.lexis.proofs.Seeking.{turned}
 
 -- ── a name ──
@@ -34,15 +34,9 @@ module _ (b : Bool) {x : Reading} {o : Option Scalar} (s : Text) (g : scalar_nam
 
 -- ── the forms in order ──
 
-module _ {p s : Text} {r : Applied} (e : Told p s r) where
-  by : (d : Bool) → r.applies ≡ d → each length (bracketed p s) ≡ if d then Some r.len else None
-  by d t = sym e.is ∙ ap (λ (d : Bool). if d then Some r.len else None) t
-
-  pub applied : r.applies ≡ true → each length (bracketed p s) ≡ Some r.len
-  applied t = by true t
-
-  pub unapplied : r.applies ≡ false → bracketed p s ≡ None
-  unapplied t = bracketed_none p s (by false t)
+-- the places in the content of the form that applies
+pub placed : {p s : Text} {r : Option Content} {c : Content} → Told p s r → r ≡ Some c → Placed c.inner.now c.places
+placed e h = (rw h at e.is).1
 
 -- no form before fs applies
 pub record Tried (all : List Form) (d : Option Found) (t : Text) (fs : List Form) : Type 0 where
@@ -55,12 +49,13 @@ module _ {all : List Form} {d : Option Found} {t : Text} {f : Form} {fs : List F
   next : (o : Option Text) → bracketed (bytes f.opens) t ≡ o → first_of all t d ≡ elim o [ Some u ↦ f.content u | None ↦ first_of fs t d ]
   next o e = g.same ∙ ap (λ (o : Option Text). elim o [ Some u ↦ f.content u | None ↦ first_of fs t d ]) e
 
-  pub past : {r : Applied} → Told (bytes f.opens) t r → r.applies ≡ false → Tried all d t fs
-  past e h = record { same = next None (unapplied e h) }
+  module _ {r : Option Content} (e : Told (bytes f.opens) t r) where
+    pub past : r ≡ None → Tried all d t fs
+    past h = record { same = next None (rw h at e.is) }
 
-  pub decides : (b : Bool) {x : Reading} (u : Text) → bracketed (bytes f.opens) t ≡ Some u → x ≡ answered b (each (carried 8) (f.content u))
-      → x ≡ answered b (each (carried 8) (first_of all t d))
-  decides b u e q = q ∙ sym (ap (λ (o : Option Found). answered b (each (carried 8) o)) (next (Some u) e))
+    pub decides : (b : Bool) {x : Reading} {c : Content} → r ≡ Some c → x ≡ answered b (each (carried 8) (f.content c.inner.now))
+        → x ≡ answered b (each (carried 8) (first_of all t d))
+    decides b {c = c} h q = q ∙ sym (ap (λ (o : Option Found). answered b (each (carried 8) o)) (next (Some c.inner.now) (rw h at e.is).0))
 
 module _ {all fs : List Form} {d : Option Found} {t : Text} {x : Reading} (b : Bool) where
   pub at_last : Tried all d t fs → x ≡ answered b (each (carried 8) (first_of fs t d)) → x ≡ answered b (each (carried 8) (first_of all t d))

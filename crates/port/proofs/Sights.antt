@@ -39,14 +39,13 @@ module _ (s : Text) where
   module _ (i : ℕ) (e : place (cut (bytes "tile=(") s) ≡ Some i) where
     pub tile_closed : (n : ℕ) → place (cut (bytes ")") (take (length s - (i + 6)) (drop (i + 6) s))) ≡ Some n
         → (l : Listing (List ℤ)) → list l ≡ laid 8 (stands (W.tile_entries (take (i + 6 + n - (i + 6)) (drop (i + 6) s))))
-        → TileIs s i (record { found = true; tile = l; behind = i + 6 + n + 1 }) (between (bytes "tile=(") (bytes ")") s)
+        → TileIs s i (Some (record { tile = l; behind = i + 6 + n + 1 })) (between (bytes "tile=(") (bytes ")") s)
     tile_closed n f l r =
         let k : i + 6 + n - (i + 6) ≡ n = omega arith in
         let m : i + 6 + n + 1 ≡ i + 6 + (n + 1) = omega arith in
-        subst (TileIs s i (record { found = true; tile = l; behind = i + 6 + n + 1 }))
+        subst (TileIs s i (Some (record { tile = l; behind = i + 6 + n + 1 })))
         (sym (ap (up_to (bytes ")")) (cut_at (bytes "tile=(") s i e) ∙ next (bytes "tile=(") s i e (bytes ")") n f))
         (record {
-          found = refl;
           tile = rw k at r;
           onward = ap (λ (b : ℕ). drop b s) m;
           past = omega arith;
@@ -54,12 +53,12 @@ module _ (s : Text) where
         })
 
     pub tile_unclosed : place (cut (bytes ")") (take (length s - (i + 6)) (drop (i + 6) s))) ≡ None
-        → (r : TileShape) → r.found ≡ false → TileIs s i r (between (bytes "tile=(") (bytes ")") s)
-    tile_unclosed f r h =
-        subst (TileIs s i r) (sym (ap (up_to (bytes ")")) (cut_at (bytes "tile=(") s i e) ∙ no_next (bytes "tile=(") s i e (bytes ")") f)) h
+        → {r : Option TileShape} → r ≡ None → TileIs s i r (between (bytes "tile=(") (bytes ")") s)
+    tile_unclosed f h =
+        rw h (subst (TileIs s i None) (sym (ap (up_to (bytes ")")) (cut_at (bytes "tile=(") s i e) ∙ no_next (bytes "tile=(") s i e (bytes ")") f)) tt)
 
-  pub tile_absent : (i : ℕ) → place (cut (bytes "tile=(") s) ≡ None → (r : TileShape) → r.found ≡ false → TileIs s i r (between (bytes "tile=(") (bytes ")") s)
-  tile_absent i e r h = subst (TileIs s i r) (sym (ap (up_to (bytes ")")) (cut_nowhere (bytes "tile=(") s e))) h
+  pub tile_absent : (i : ℕ) → place (cut (bytes "tile=(") s) ≡ None → TileIs s i None (between (bytes "tile=(") (bytes ")") s)
+  tile_absent i e = subst (TileIs s i None) (sym (ap (up_to (bytes ")")) (cut_nowhere (bytes "tile=(") s e))) tt
 
 -- ── the inner tensor view ──
 
@@ -68,33 +67,29 @@ empty : T.tensor [] ≡ None
 unfolding T.tensor T.tensor_parts scalar_name
 empty = refl
 
-module _ {r : Tensor} (c : Text) (i : ℕ) {q : Scanning} (g : Scanned (take (length c - i) (drop i c)) q) where
+module _ {r : Option Tensor} (c : Text) (i : ℕ) {q : Scanning} (g : Scanned (take (length c - i) (drop i c)) q) where
   pub enclosed_at : q.end < length (take (length c - i) (drop i c)) → TensorIs r (T.tensor (take q.end (take (length c - i) (drop i c))))
       → TensorIs r (T.tensor (W.enclosed (close 0 (drop i c))))
   enclosed_at l h =
       let e = sym g.end ∙ told_some (length (take (length c - i) (drop i c))) q.end l in
       rw (close_at (drop i c) q.end (rw (rest c i) at e)) (rw (rest c i) at h)
 
-  pub enclosed_nowhere : length (take (length c - i) (drop i c)) ≤ q.end → TensorIs r None → TensorIs r (T.tensor (W.enclosed (close 0 (drop i c))))
+  pub enclosed_nowhere : length (take (length c - i) (drop i c)) ≤ q.end → r ≡ None → TensorIs r (T.tensor (W.enclosed (close 0 (drop i c))))
   enclosed_nowhere l h =
       let e = sym g.end ∙ told_none (length (take (length c - i) (drop i c))) q.end l in
-      rw (close_nowhere (drop i c) (rw (rest c i) at e), empty) h
+      rw (close_nowhere (drop i c) (rw (rest c i) at e), empty, h) (record { is = refl })
 
 pub opened_within : {n i : ℕ} {q : Option ℕ} → AtMost n q → q ≡ Some i → i ≤ n
 opened_within {n} h e = subst (AtMost n) e h
 
-module _ {r : Tensor} (c b : Text) where
+module _ {r : Option Tensor} (c b : Text) where
   pub opened_at : {i : ℕ} {q : Option ℕ} → W.opened c b ≡ from c q → q ≡ Some i → TensorIs r (T.tensor (W.enclosed (close 0 (drop i c)))) → TensorIs r (W.inner_by (W.opened c b))
   opened_at e q h = subst (λ (o : Option Text). TensorIs r (W.inner_by o)) (sym (e ∙ ap (λ (f : Option ℕ). from c f) q)) h
 
-  pub opened_nowhere : {q : Option ℕ} → W.opened c b ≡ from c q → q ≡ None → TensorIs r None → TensorIs r (W.inner_by (W.opened c b))
-  opened_nowhere e q h = subst (λ (o : Option Text). TensorIs r (W.inner_by o)) (sym (e ∙ ap (λ (f : Option ℕ). from c f) q)) h
+  pub opened_nowhere : {q : Option ℕ} → W.opened c b ≡ from c q → q ≡ None → r ≡ None → TensorIs r (W.inner_by (W.opened c b))
+  opened_nowhere e q h = subst (λ (o : Option Text). TensorIs r (W.inner_by o)) (sym (e ∙ ap (λ (f : Option ℕ). from c f) q)) (rw h (record { is = refl }))
 
 -- ── the view ──
-
-taken : {A B : Type 0} (f : A → B) (a : A) (d : Bool) → (if d then Some (f a) else None) ≡ each f (if d then Some a else None)
-taken f a true = refl
-taken f a false = refl
 
 abbrev wrap : Laid → Padding → Tensored → Viewed
 wrap l q x = record { tile = l; tensor = x; padding = q }
@@ -104,39 +99,41 @@ wrapped : (es : List Entry) (q : Padding) (o : Option T.Tensor)
 wrapped es q None = refl
 wrapped es q (Some x) = refl
 
-module _ (s : Text) (i : ℕ) (t : TileShape) where
-  untiled : (c : Cut) → TileIs s i t c → t.found ≡ false → W.view_by s c ≡ None
-  untiled nowhere h f = refl
-  untiled (at u b) h f = absurd (false≢true (sym f ∙ h.found))
+module _ (s : Text) (i : ℕ) where
+  untiled : (c : Cut) → TileIs s i None c → W.view_by s c ≡ None
+  untiled nowhere h = refl
+  untiled (at u b) h = absurd h
 
-  fits : (c : Cut) → TileIs s i t c → t.found ≡ true → (i + 6 ≤ t.behind) × (t.behind ≤ length s)
-  fits nowhere h f = absurd (false≢true (sym h ∙ f))
-  fits (at u b) h f = (h.past, h.fits)
+  fits : {t : TileShape} (c : Cut) → TileIs s i (Some t) c → (i + 6 ≤ t.behind) × (t.behind ≤ length s)
+  fits nowhere h = absurd h
+  fits (at u b) h = (h.past, h.fits)
 
-  module _ (v : Tensor) (q : Padding) where
-    abbrev pub whole : View
-    whole = record { found = v.found; tile = t.tile; tensor = v; padding = q }
+  -- what is read behind the tile, with the padding
+  behind_tile : {t : TileShape} (c : Cut) → TileIs s i (Some t) c → {o : Option Tensor} → TensorIs o (W.inner_by (W.opened s (drop t.behind s)))
+      → each (wrap (list t.tile) (W.padding s)) (each tensor_parts o) ≡ each (viewed 8) (W.view_by s c)
+  behind_tile nowhere h g = absurd h
+  behind_tile (at u b) h g =
+      (λ i. each (wrap (h.tile i) (W.padding s)) (g.is i)) ∙
+      ap (λ (b : Text). each (wrap (laid 8 (stands (W.tile_entries u))) (W.padding s)) (each (tensored 8) (W.inner_by (W.opened s b)))) h.onward ∙
+      wrapped (W.tile_entries u) (W.padding s) (W.inner_by (W.opened s b))
 
-    tiled : (c : Cut) → TileIs s i t c → t.found ≡ true → TensorIs v (W.inner_by (W.opened s (drop t.behind s))) → q ≡ W.padding s → ViewIs whole (W.view_by s c)
-    tiled nowhere h f g e = absurd (false≢true (sym h ∙ f))
-    tiled (at u b) h f g e = record {
-      is = taken (wrap (list t.tile) q) (tensor_parts v) v.found ∙
-          (λ i. each (wrap (h.tile i) (e i)) (g.is i)) ∙
-          ap (λ (b : Text). each (wrap (laid 8 (stands (W.tile_entries u))) (W.padding s)) (each (tensored 8) (W.inner_by (W.opened s b)))) h.onward ∙
-          wrapped (W.tile_entries u) (W.padding s) (W.inner_by (W.opened s b));
-    }
-
-  module _ (h : TileIs s i t (between (bytes "tile=(") (bytes ")") s)) where
-    pub no_view : t.found ≡ false → {r : View} → ViewIs r None → ViewIs r (W.view s)
+  module _ {r : Option TileShape} (h : TileIs s i r (between (bytes "tile=(") (bytes ")") s)) where
+    pub no_view : {v : Option View} → r ≡ None → v ≡ None → ViewIs v (W.view s)
     unfolding W.view
-    no_view f {r} g = subst (ViewIs r) (sym (untiled (between (bytes "tile=(") (bytes ")") s) h f)) g
+    no_view e f = rw f (record { is = sym (ap (each (viewed 8)) (untiled (between (bytes "tile=(") (bytes ")") s) (rw e at h))) })
 
-    pub behind_fits : t.found ≡ true → (i + 6 ≤ t.behind) × (t.behind ≤ length s)
-    behind_fits = fits (between (bytes "tile=(") (bytes ")") s) h
+    module _ {t : TileShape} (e : r ≡ Some t) where
+      pub behind_fits : (i + 6 ≤ t.behind) × (t.behind ≤ length s)
+      behind_fits = fits (between (bytes "tile=(") (bytes ")") s) (rw e at h)
 
-    pub whole_view : t.found ≡ true → (v : Tensor) (q : Padding) → TensorIs v (W.inner_by (W.opened s (drop t.behind s))) → q ≡ W.padding s → ViewIs (whole v q) (W.view s)
-    unfolding W.view
-    whole_view f v q = tiled v q (between (bytes "tile=(") (bytes ")") s) h f
+      module _ {o : Option Tensor} (g : TensorIs o (W.inner_by (W.opened s (drop t.behind s)))) where
+        pub no_tensor_view : {v : Option View} → o ≡ None → v ≡ None → ViewIs v (W.view s)
+        unfolding W.view
+        no_tensor_view n f = rw f (record { is = rw n at behind_tile (between (bytes "tile=(") (bytes ")") s) (rw e at h) g })
+
+        pub whole_view : {v : Tensor} {q : Padding} → o ≡ Some v → q ≡ W.padding s → ViewIs (Some (record { tile = t.tile; tensor = v; padding = q })) (W.view s)
+        unfolding W.view
+        whole_view n f = record { is = rw (n, sym f) at behind_tile (between (bytes "tile=(") (bytes ")") s) (rw e at h) g }
 
 -- ── the three views ──
 
@@ -145,27 +142,27 @@ abbrev pub view_built : Kind → View → Laid → Laid → Laid → Option Carr
 view_built k v m t z =
     Some (built k v.tensor.element false (list v.tensor.shape) (list v.tensor.strides) (list v.tile) m t z v.padding)
 
-module _ (s : Text) {v : View} (g : ViewIs v (W.view s)) where
+module _ (s : Text) {r : Option View} (g : ViewIs r (W.view s)) where
   -- ── without a view there is none of the three ──
 
-  lacks : v.found ≡ false → W.view s ≡ None
-  lacks = B.lacks (viewed 8) (view_parts v) (W.view s) g.is
+  lacks : r ≡ None → W.view s ≡ None
+  lacks f = B.lacks (viewed 8) (W.view s) (rw f at g.is)
 
-  pub no_partition : v.found ≡ false → None ≡ each (carried 8) (W.partition_view s)
+  pub no_partition : r ≡ None → None ≡ each (carried 8) (W.partition_view s)
   unfolding W.partition_view
   no_partition f = sym (ap (λ (o : Option W.View). each (carried 8) (W.partition_from (W.list_after (bytes "dim_map=[") s) o)) (lacks f))
 
-  pub no_gather : v.found ≡ false → None ≡ each (carried 8) (W.gather_scatter_view s)
+  pub no_gather : r ≡ None → None ≡ each (carried 8) (W.gather_scatter_view s)
   unfolding W.gather_scatter_view
   no_gather f = rw (lacks f)
 
-  pub no_strided : v.found ≡ false → None ≡ each (carried 8) (W.strided_view s)
+  pub no_strided : r ≡ None → None ≡ each (carried 8) (W.strided_view s)
   unfolding W.strided_view
   no_strided f = rw (lacks f)
 
-  module _ (f : v.found ≡ true) where
+  module _ {v : View} (f : r ≡ Some v) where
     has : B.Has (viewed 8) (W.view s) (view_parts v)
-    has = B.has (viewed 8) (view_parts v) (W.view s) g.is f
+    has = B.has (viewed 8) (W.view s) (rw f at g.is)
 
     pub sound : (fell (list v.tensor.shape) ≤ v.tensor.shape.row.len) × (fell (list v.tensor.strides) ≤ v.tensor.strides.row.len)
     sound = let t = has.value.tensor in

@@ -17,7 +17,7 @@ use Rattle.lists.specs.Laid.{Laid, laid, list}
 use Rattle.lists.specs.declared.row.Row.{Row}
 use Rattle.port.specs.Keys.{Placed}
 use Rattle.port.specs.declared.tensor_view.Tensor.{Tensor}
-use Rattle.port.specs.declared.brackets.Applied.{Applied}
+use Rattle.port.specs.declared.brackets.Content.{Content}
 use Rattle.port.specs.declared.views.View.{View}
 use Rattle.port.specs.declared.views.TileShape.{TileShape}
 use Rattle.port.specs.declared.views.Closed.{Closed}
@@ -148,8 +148,8 @@ abbrev pub tensor_parts : Tensor → Tensored
 tensor_parts t = record { element = t.element; shape = list t.shape; strides = list t.strides }
 
 -- a record, so that what stands under it can be inferred
-pub record TensorIs (r : Tensor) (o : Option T.Tensor) : Type 0 where
-  pub is : (if r.found then Some (tensor_parts r) else None) ≡ each (tensored 8) o
+pub record TensorIs (r : Option Tensor) (o : Option T.Tensor) : Type 0 where
+  pub is : each tensor_parts r ≡ each (tensored 8) o
 
 -- ── what the three views share ──
 
@@ -164,21 +164,22 @@ viewed cap v = record { tile = laid cap (stands v.tile); tensor = tensored cap v
 abbrev pub view_parts : View → Viewed
 view_parts v = record { tile = list v.tile; tensor = tensor_parts v.tensor; padding = v.padding }
 
-pub record ViewIs (r : View) (o : Option W.View) : Type 0 where
-  pub is : (if r.found then Some (view_parts r) else None) ≡ each (viewed 8) o
+pub record ViewIs (r : Option View) (o : Option W.View) : Type 0 where
+  pub is : each view_parts r ≡ each (viewed 8) o
 
 -- ── the tile shape: what stands between the `tile=(` at a place and `)`, and where what follows begins ──
 
 pub record Tiled (s : Text) (at : ℕ) (r : TileShape) (inside behind : Text) : Type 0 where
-  pub found : r.found ≡ true
   pub tile : list r.tile ≡ laid 8 (stands (W.tile_entries inside))
   pub onward : drop r.behind s ≡ behind
   pub past : at + 6 ≤ r.behind
   pub fits : r.behind ≤ length s
 
-abbrev pub TileIs : Text → ℕ → TileShape → Cut → Type 0
-TileIs s i r nowhere = r.found ≡ false
-TileIs s i r (at u t) = Tiled s i r u t
+abbrev pub TileIs : Text → ℕ → Option TileShape → Cut → Type 0
+TileIs s i None nowhere = Unit {0}
+TileIs s i None (at u t) = ⊥
+TileIs s i (Some r) nowhere = ⊥
+TileIs s i (Some r) (at u t) = Tiled s i r u t
 
 -- ── a list in brackets, by its place ──
 
@@ -202,8 +203,12 @@ list_laid own W.absent = own
 list_laid own W.unclosed = own
 list_laid own (W.listed t) = laid 8 (W.entries t)
 
--- ── a form: whether the one that opens with p applies, how long its content is then, and the places in it ──
+-- ── a form that opens with p: its content where it applies, and the places in it ──
 
-pub record Told (p s : Text) (r : Applied) : Type 0 where
-  pub is : (if r.applies then Some r.len else None) ≡ each length (bracketed p s)
-  pub places : r.applies ≡ true → (c : Text) → bracketed p s ≡ Some c → Placed c r.places
+abbrev Stripped : Text → Text → Option Content → Type 0
+Stripped p s None = bracketed p s ≡ None
+Stripped p s (Some c) = (bracketed p s ≡ Some c.inner.now) × Placed c.inner.now c.places
+
+-- a record, so that what stands under it can be inferred
+pub record Told (p s : Text) (r : Option Content) : Type 0 where
+  pub is : Stripped p s r

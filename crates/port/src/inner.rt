@@ -37,8 +37,5 @@ pub(crate) fn opens(inner: &[u8], r: Places, behind: usize) -> Option<usize>
     }
     let tile = r.tile;
     let plain = r.plain;
-    match plain_from(inner, tile, plain, behind) {
-        Some(n) => Some(behind + n + 12),
-        None => None,
-    }
+    Some(behind + plain_from(inner, tile, plain, behind)? + 12)
 }

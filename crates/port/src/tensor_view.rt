@@ -12,17 +12,16 @@ use lists::Dims;
 use meaning::{Kind, Reading, Refusal, refuse};
 use scalars::Scalar;
 
-// A tensor view's parts, where there is one.
+// A tensor view's parts.
 #[derive(Clone, Copy)]
 pub struct Tensor {
-    pub found: bool,
     pub element: Scalar,
     pub shape: Dims,
     pub strides: Dims,
 }
 
 // `[shape x]scalar, strides=[strides]`.
-pub(crate) fn parse_tensor(inner: &[u8], k: Places) -> Tensor
+pub(crate) fn parse_tensor(inner: &[u8], k: Places) -> Option<Tensor>
     requires { Placed inner.now k }
     ensures { TensorIs result (tensor inner.now) }
 {
@@ -38,46 +37,36 @@ pub(crate) fn parse_tensor(inner: &[u8], k: Places) -> Tensor
 }
 
 // The strides' clause opens with the `n` bytes at `i`.
-fn around(inner: &[u8], i: usize, n: usize) -> Tensor
+fn around(inner: &[u8], i: usize, n: usize) -> Option<Tensor>
     requires { i + n ≤ length inner.now }
     ensures { TensorIs result (tensor_parts (take i inner.now) (Some (drop (i + n) inner.now))) }
 {
     with_strides(&inner[..i], &inner[i + n..])
 }
 
-fn with_strides(s: &[u8], strides: &[u8]) -> Tensor
+fn with_strides(s: &[u8], strides: &[u8]) -> Option<Tensor>
     ensures { TensorIs result (tensor_parts s.now (Some strides.now)) }
 {
     let f = lists::parse_front(s);
-    let last = f.last;
-    let shape = f.dims;
-    match scalars::parse_scalar(&s[last..]) {
-        Some(element) => Tensor {
-            found: true,
-            element,
-            shape,
-            strides: parse_strides(strides),
-        },
-        None => no_tensor(),
-    }
+    let element = scalars::parse_scalar(&s[f.last..])?;
+    Some(Tensor {
+        element,
+        shape: f.dims,
+        strides: parse_strides(strides),
+    })
 }
 
 // Without the clause, one DYNAMIC per dimension.
-fn without_strides(s: &[u8]) -> Tensor
+fn without_strides(s: &[u8]) -> Option<Tensor>
     ensures { TensorIs result (tensor_parts s.now None) }
 {
     let f = lists::parse_front(s);
-    let last = f.last;
-    let shape = f.dims;
-    match scalars::parse_scalar(&s[last..]) {
-        Some(element) => Tensor {
-            found: true,
-            element,
-            shape,
-            strides: lists::dynamic(shape.row.len),
-        },
-        None => no_tensor(),
-    }
+    let element = scalars::parse_scalar(&s[f.last..])?;
+    Some(Tensor {
+        element,
+        shape: f.dims,
+        strides: lists::dynamic(f.dims.row.len),
+    })
 }
 
 // All leading `[` and trailing `]` go; split at commas.
@@ -90,28 +79,19 @@ fn parse_strides(s: &[u8]) -> Dims
     )
 }
 
-pub(crate) fn no_tensor() -> Tensor
-    ensures { TensorIs result None }
-{
-    let l = Dims::none();
-    Tensor {
-        found: false,
-        element: Scalar::I1,
-        shape: l,
-        strides: l,
-    }
-}
-
 pub(crate) fn parse_tensor_view(inner: &[u8], k: Places, marked: bool) -> Reading
     requires { Placed inner.now k }
     ensures { result ≡ answered marked (each (carried 8) (tensor_view inner.now)) }
 {
-    let t = parse_tensor(inner, k);
-    if !t.found {
-        return refuse(Refusal::NoType, 0);
+    match parse_tensor(inner, k) {
+        Some(t) => simple(
+            Kind::TensorView,
+            t.element,
+            false,
+            t.shape,
+            t.strides,
+            marked,
+        ),
+        None => refuse(Refusal::NoType, 0),
     }
-    let element = t.element;
-    let shape = t.shape;
-    let strides = t.strides;
-    simple(Kind::TensorView, element, false, shape, strides, marked)
 }

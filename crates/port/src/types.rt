@@ -8,7 +8,7 @@ ghost use Rattle.port.specs.Carried.{carried, answered};
 ghost use Rattle.port.specs.Forms.{shorthand, unprefixed, bare, first_of};
 ghost use Rattle.port.specs.Passes.{reads_on};
 
-use super::brackets::{applies, strip_prefix_suffix};
+use super::brackets::strip_prefix_suffix;
 use super::made::listless;
 use super::marks::{to_read, without_marks};
 use super::tensor_view::parse_tensor_view;
@@ -51,9 +51,8 @@ fn unprefixed(s: &[u8]) -> &[u8]
 fn parse_last(s: &[u8], t: &[u8], marked: bool) -> Reading
     ensures { result ≡ answered marked (each (carried 8) (first_of (drop 5 shorthand) t.now (bare s.now))) }
 {
-    let q = applies(t, b"ptr<");
-    if q.applies {
-        return parse_ptr(strip_prefix_suffix(t, b"ptr<", q.len), marked);
+    if let Some(q) = strip_prefix_suffix(t, b"ptr<") {
+        return parse_ptr(q.inner, marked);
     }
     parse_bare(s, marked)
 }
@@ -62,29 +61,14 @@ fn parse_last(s: &[u8], t: &[u8], marked: bool) -> Reading
 fn parse_views(s: &[u8], t: &[u8], marked: bool) -> Reading
     ensures { result ≡ answered marked (each (carried 8) (first_of (drop 2 shorthand) t.now (bare s.now))) }
 {
-    let p = applies(t, b"partition_view<");
-    if p.applies {
-        return parse_partition_view(
-            strip_prefix_suffix(t, b"partition_view<", p.len),
-            p.places,
-            marked,
-        );
+    if let Some(p) = strip_prefix_suffix(t, b"partition_view<") {
+        return parse_partition_view(p.inner, p.places, marked);
     }
-    let g = applies(t, b"gather_scatter_view<");
-    if g.applies {
-        return parse_gather_scatter_view(
-            strip_prefix_suffix(t, b"gather_scatter_view<", g.len),
-            g.places,
-            marked,
-        );
+    if let Some(g) = strip_prefix_suffix(t, b"gather_scatter_view<") {
+        return parse_gather_scatter_view(g.inner, g.places, marked);
     }
-    let d = applies(t, b"strided_view<");
-    if d.applies {
-        return parse_strided_view(
-            strip_prefix_suffix(t, b"strided_view<", d.len),
-            d.places,
-            marked,
-        );
+    if let Some(d) = strip_prefix_suffix(t, b"strided_view<") {
+        return parse_strided_view(d.inner, d.places, marked);
     }
     parse_last(s, t, marked)
 }
@@ -93,17 +77,11 @@ fn parse_views(s: &[u8], t: &[u8], marked: bool) -> Reading
 fn parse_named(s: &[u8], t: &[u8], marked: bool) -> Reading
     ensures { result ≡ answered marked (each (carried 8) (first_of shorthand t.now (bare s.now))) }
 {
-    let e = applies(t, b"tile<");
-    if e.applies {
-        return parse_tile(strip_prefix_suffix(t, b"tile<", e.len), e.places, marked);
+    if let Some(e) = strip_prefix_suffix(t, b"tile<") {
+        return parse_tile(e.inner, e.places, marked);
     }
-    let v = applies(t, b"tensor_view<");
-    if v.applies {
-        return parse_tensor_view(
-            strip_prefix_suffix(t, b"tensor_view<", v.len),
-            v.places,
-            marked,
-        );
+    if let Some(v) = strip_prefix_suffix(t, b"tensor_view<") {
+        return parse_tensor_view(v.inner, v.places, marked);
     }
     parse_views(s, t, marked)
 }

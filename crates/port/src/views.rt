@@ -14,14 +14,13 @@ use super::inner::opens;
 use super::keys::Places;
 use super::made::made;
 use super::survey::scan;
-use super::tensor_view::{Tensor, no_tensor, parse_tensor};
+use super::tensor_view::{Tensor, parse_tensor};
 use lists::Smalls;
 use meaning::{Kind, Padding, Reading, Refusal, refuse};
 
 // The tile shape, and where what follows its `)` begins.
 #[derive(Clone, Copy)]
 pub struct TileShape {
-    pub found: bool,
     pub tile: Smalls,
     pub behind: usize,
 }
@@ -29,7 +28,6 @@ pub struct TileShape {
 // What the three views share.
 #[derive(Clone, Copy)]
 pub struct View {
-    pub found: bool,
     pub tile: Smalls,
     pub tensor: Tensor,
     pub padding: Padding,
@@ -44,35 +42,19 @@ pub enum Closed {
 }
 
 // `at` is the place of the first `tile=(`.
-fn parse_view_tile_shape(inner: &[u8], at: usize) -> TileShape
+fn parse_view_tile_shape(inner: &[u8], at: usize) -> Option<TileShape>
     requires { Spot (bytes "tile=(") inner.now at }
     ensures { TileIs inner.now at result (between (bytes "tile=(") (bytes ")") inner.now) }
 {
     if inner.len() <= at {
-        return no_tile();
+        return None;
     }
     let start = at + 6;
-    match lexis::find(&inner[start..], b")") {
-        Some(n) => {
-            let end = start + n;
-            TileShape {
-                found: true,
-                tile: tile_entries(&inner[start..end]),
-                behind: end + 1,
-            }
-        }
-        None => no_tile(),
-    }
-}
-
-fn no_tile() -> TileShape
-    ensures { result.found ≡ false }
-{
-    TileShape {
-        found: false,
-        tile: Smalls::none(),
-        behind: 0,
-    }
+    let end = start + lexis::find(&inner[start..], b")")?;
+    Some(TileShape {
+        tile: tile_entries(&inner[start..end]),
+        behind: end + 1,
+    })
 }
 
 // Split at `x` if one occurs, else at commas; an unreadable entry is 1.
@@ -113,60 +95,37 @@ fn parse_padding_value(inner: &[u8], at: usize) -> Padding
 }
 
 // The inner tensor view; what follows the tile's `)` begins at `behind`.
-fn parse_nested_tensor_view(inner: &[u8], k: Places, behind: usize) -> Tensor
+fn parse_nested_tensor_view(inner: &[u8], k: Places, behind: usize) -> Option<Tensor>
     requires { Placed inner.now k × (k.tile < length inner.now) × (k.tile + 6 ≤ behind) × (behind ≤ length inner.now) }
     ensures { TensorIs result (inner_by (opened inner.now (drop behind inner.now))) }
 {
-    match opens(inner, k, behind) {
-        Some(i) => parse_enclosed(inner, i),
-        None => no_tensor(),
-    }
+    parse_enclosed(inner, opens(inner, k, behind)?)
 }
 
 // Up to the matching `>` from `i` on; without one the content is empty, and names no scalar.
-fn parse_enclosed(inner: &[u8], i: usize) -> Tensor
+fn parse_enclosed(inner: &[u8], i: usize) -> Option<Tensor>
     requires { i ≤ length inner.now }
     ensures { TensorIs result (tensor (enclosed (close 0 (drop i inner.now)))) }
 {
     let s = &inner[i..];
     let r = scan(s);
-    let end = r.end;
-    if end < s.len() {
-        let places = r.places;
-        return parse_tensor(&s[..end], places);
+    if r.end < s.len() {
+        return parse_tensor(&s[..r.end], r.places);
     }
-    no_tensor()
+    None
 }
 
-fn parse_view(inner: &[u8], k: Places) -> View
+fn parse_view(inner: &[u8], k: Places) -> Option<View>
     requires { Placed inner.now k }
     ensures { ViewIs result (view inner.now) }
 {
-    let t = parse_view_tile_shape(inner, k.tile);
-    if !t.found {
-        return no_view();
-    }
-    let tile = t.tile;
-    let behind = t.behind;
-    let tensor = parse_nested_tensor_view(inner, k, behind);
-    let found = tensor.found;
-    View {
-        found,
-        tile,
+    let t = parse_view_tile_shape(inner, k.tile)?;
+    let tensor = parse_nested_tensor_view(inner, k, t.behind)?;
+    Some(View {
+        tile: t.tile,
         tensor,
         padding: parse_padding_value(inner, k.padding),
-    }
-}
-
-fn no_view() -> View
-    ensures { ViewIs result None }
-{
-    View {
-        found: false,
-        tile: Smalls::none(),
-        tensor: no_tensor(),
-        padding: Padding::Absent,
-    }
+    })
 }
 
 // Where the list after the first `prefix`, which stands at `at`, begins and ends.
@@ -238,10 +197,9 @@ pub(crate) fn parse_partition_view(inner: &[u8], k: Places, marked: bool) -> Rea
     requires { Placed inner.now k }
     ensures { result ≡ answered marked (each (carried 8) (partition_view inner.now)) }
 {
-    let v = parse_view(inner, k);
-    if !v.found {
+    let Some(v) = parse_view(inner, k) else {
         return refuse(Refusal::NoType, 0);
-    }
+    };
     let tile = v.tile;
     match list_after(inner, b"dim_map=[", k.map) {
         Closed::Between(a, e) => {
@@ -270,10 +228,9 @@ pub(crate) fn parse_gather_scatter_view(inner: &[u8], k: Places, marked: bool) -
     requires { Placed inner.now k }
     ensures { result ≡ answered marked (each (carried 8) (gather_scatter_view inner.now)) }
 {
-    let v = parse_view(inner, k);
-    if !v.found {
+    let Some(v) = parse_view(inner, k) else {
         return refuse(Refusal::NoType, 0);
-    }
+    };
     view_of(
         Kind::GatherScatter,
         v,
@@ -288,10 +245,9 @@ pub(crate) fn parse_strided_view(inner: &[u8], k: Places, marked: bool) -> Readi
     requires { Placed inner.now k }
     ensures { result ≡ answered marked (each (carried 8) (strided_view inner.now)) }
 {
-    let v = parse_view(inner, k);
-    if !v.found {
+    let Some(v) = parse_view(inner, k) else {
         return refuse(Refusal::NoType, 0);
-    }
+    };
     let tile = v.tile;
     let n = tile.row.len;
     let map = parse_i32_list_after(inner, b"dim_map=[", k.map, lists::count_up(n));
