@@ -63,13 +63,10 @@ pub(crate) fn judge(text: &[u8]) -> Reading
         &mut map,
         &mut walk,
     );
-    let Ok(read) = read else {
-        return refuse(Refusal::NotStrict, 0);
+    let w = match read {
+        Ok(r) if r.end == text.len() => r.value,
+        _ => return refuse(Refusal::NotStrict, 0),
     };
-    if read.end != text.len() {
-        return refuse(Refusal::NotStrict, 0);
-    }
-    let w = read.value;
     if !within(w) {
         return refuse(Refusal::TooMany, 0);
     }
