@@ -43,7 +43,7 @@ fn record_of(
 fn within(w: &Whole) -> bool
     ensures { result ≡ leb w.now.shape 8 && leb w.now.strides 8 && leb w.now.tile 8 && leb w.now.map 8 && leb w.now.walk 8 }
 {
-    (w.shape <= CAP) & (w.strides <= CAP) & (w.tile <= CAP) & (w.map <= CAP) & (w.walk <= CAP)
+    w.shape <= CAP && w.strides <= CAP && w.tile <= CAP && w.map <= CAP && w.walk <= CAP
 }
 
 // The type is accepted if it is the whole text.

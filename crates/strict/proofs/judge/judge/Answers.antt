@@ -6,6 +6,6 @@ use Rattle.strict.proofs.judge.judge.Goals.{in_default-via-in-Ok+else-r-text, in
 
 pub returns-in_default : goal.returns-in_default
 returns-in_default c = let t = c.read_whole-read.ensures in c.refuse.ensures ∙ elim c.in_default.branch [
-    in_default-via-in-Ok+else-r-text w ↦ L.behind c.args.text.now t w.in-Ok.is w.if-r-text.false
-    | in_default-via-in_default w ↦ L.halted c.args.text.now t w.in_default.is
-  ]
+  | in_default-via-in-Ok+else-r-text w ↦ L.behind c.args.text.now t w.in-Ok.is w.if-r-text.false
+  | in_default-via-in_default w ↦ L.halted c.args.text.now t w.in_default.is
+]
