@@ -24,6 +24,11 @@ use Rattle.grammar.proofs.Answer.{judge, answer, answer_ascii, answer_right}
 use Rattle.grammar.proofs.Printed.{strict_low}
 use Rattle.strict.specs.Lists.{Row, nothing, pushes}
 use Rattle.strict.specs.Whole as W
+use Rattle.strict.specs.Cursor.{Told}
+use Rattle.strict.specs.declared.cursor.Read.{Read}
+use Rattle.strict.specs.declared.cursor.Stuck.{Stuck}
+use Rattle.strict.specs.declared.whole.Whole.{Whole}
+use Rattle.std.specs.Prelude.{Result, Ok, Err}
 use Rattle.strict.specs.Plain as P
 use Rattle.lexis.proofs.Lists.{view}
 
@@ -93,6 +98,14 @@ module _ (s : Text) (e : W.Plain) (d : ℕ) where
 
   pub whole : d ≡ length s → P.small e ≡ true → P.accepted e ≡ P.judged (got e (drop d s))
   whole k n = let h : length s ≤ d = omega arith in rw (drop_of_length-le s h, n)
+
+-- what is read is stuck, or has something behind it
+module _ (s : Text) {f : Whole → W.Plain} {a : Result (Read Whole) Stuck} (t : Told s 0 (W.whole s) f a) where
+  pub behind : {r : Read Whole} → a ≡ Ok r → (r.end ≡ length s → ⊥) → refused 8 NotStrict 0 ≡ P.judged (W.whole s)
+  behind {r} e n = let u = subst (λ (x : Result (Read Whole) Stuck). Told s 0 (W.whole s) f x) e t in other s (f r.value) r.end u.inside n ∙ sym (ap P.judged u.same)
+
+  pub halted : {x : Stuck} → a ≡ Err x → refused 8 NotStrict 0 ≡ P.judged (W.whole s)
+  halted {x} e = let u = subst (λ (x : Result (Read Whole) Stuck). Told s 0 (W.whole s) f x) e t in sym (ap P.judged u.same)
 
 -- ── the answer ──
 

@@ -1,4 +1,5 @@
-// What a reader answers: a value and the place after it, or the place where no text can go on.
+// What a reader answers: a value and the place after it, or the place where no text can go on. It is three words long, and a call hands it on
+// through memory: what is read most often is `#[inline(always)]`.
 
 // A value, and the place after it.
 #[derive(Clone, Copy)]

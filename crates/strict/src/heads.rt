@@ -24,6 +24,7 @@ pub(crate) enum Head {
 }
 
 // After `t`: a token, a tile, a tensor view.
+#[inline(always)]
 fn kind_t(s: &[u8], at: usize) -> Result<Read<Head>, Stuck>
     requires { at ≤ length s.now }
     ensures { Told s.now at (among (advance 116 kinds) (drop at s.now)) (λ v. v) result }
@@ -38,6 +39,7 @@ fn kind_t(s: &[u8], at: usize) -> Result<Read<Head>, Stuck>
 }
 
 // A kind.
+#[inline(always)]
 fn kind(s: &[u8], at: usize) -> Result<Read<Head>, Stuck>
     requires { at ≤ length s.now }
     ensures { Told s.now at (among kinds (drop at s.now)) (λ v. v) result }

@@ -40,6 +40,7 @@ pub(crate) struct Tensor {
 }
 
 // What stands in a pointer, and what closes it, without or with the mark.
+#[inline(always)]
 pub(crate) fn read_pointee(
     s: &[u8],
     at: usize,

@@ -8,14 +8,14 @@ use meaning::{CAP, Reading, Record, Refusal, no_note, refuse};
 
 // The type as a record.
 fn record_of(
-    w: Whole,
+    w: &Whole,
     shape: [i64; CAP],
     strides: [i64; CAP],
     tile: [i32; CAP],
     map: [i32; CAP],
     walk: [i32; CAP],
 ) -> Record
-    ensures { result ≡ record_of (entire shape strides tile map walk w) }
+    ensures { result ≡ record_of (entire shape strides tile map walk w.now) }
 {
     let kind = w.kind;
     let sparse = w.sparse;
@@ -40,10 +40,10 @@ fn record_of(
 }
 
 // No list has over eight entries.
-fn within(w: Whole) -> bool
-    ensures { result ≡ leb w.shape 8 && leb w.strides 8 && leb w.tile 8 && leb w.map 8 && leb w.walk 8 }
+fn within(w: &Whole) -> bool
+    ensures { result ≡ leb w.now.shape 8 && leb w.now.strides 8 && leb w.now.tile 8 && leb w.now.map 8 && leb w.now.walk 8 }
 {
-    (w.shape <= CAP) & (w.strides <= CAP) & (w.tile <= CAP) & (w.map <= CAP) & (w.walk <= CAP)
+    w.shape <= CAP && w.strides <= CAP && w.tile <= CAP && w.map <= CAP && w.walk <= CAP
 }
 
 // The type is accepted if it is the whole text.
@@ -63,13 +63,10 @@ pub(crate) fn judge(text: &[u8]) -> Reading
         &mut map,
         &mut walk,
     );
-    let Ok(read) = read else {
-        return refuse(Refusal::NotStrict, 0);
+    let w = match &read {
+        Ok(r) if r.end == text.len() => &r.value,
+        _ => return refuse(Refusal::NotStrict, 0),
     };
-    if read.end != text.len() {
-        return refuse(Refusal::NotStrict, 0);
-    }
-    let w = read.value;
     if !within(w) {
         return refuse(Refusal::TooMany, 0);
     }

@@ -10,6 +10,7 @@ use super::words::{fit, fork, peek};
 use scalars::Scalar;
 
 // After `i`.
+#[inline(always)]
 pub(crate) fn name_i(s: &[u8], at: usize) -> Result<Read<Scalar>, Stuck>
     requires { at ≤ length s.now }
     ensures { Told s.now at (among (named (bytes "i")) (drop at s.now)) (λ v. v) result }
@@ -48,6 +49,7 @@ fn fork_i1(s: &[u8], at: usize) -> Result<Read<Scalar>, Stuck>
 }
 
 // After `f8E` or `f8e`: `4` and `w`, `5` and `m` and one of two, `8` and `x`.
+#[inline(always)]
 fn name_f8_by(
     s: &[u8],
     at: usize,
@@ -85,6 +87,7 @@ fn name_f8(s: &[u8], at: usize) -> Result<Read<Scalar>, Stuck>
 }
 
 // After `f`.
+#[inline(always)]
 pub(crate) fn name_f(s: &[u8], at: usize) -> Result<Read<Scalar>, Stuck>
     requires { at ≤ length s.now }
     ensures { Told s.now at (among (named (bytes "f")) (drop at s.now)) (λ v. v) result }
@@ -108,6 +111,7 @@ pub(crate) fn name_f(s: &[u8], at: usize) -> Result<Read<Scalar>, Stuck>
 }
 
 // A name.
+#[inline(always)]
 pub(crate) fn read_name(s: &[u8], at: usize) -> Result<Read<Scalar>, Stuck>
     requires { at ≤ length s.now }
     ensures { Told s.now at (among names (drop at s.now)) (λ v. v) result }

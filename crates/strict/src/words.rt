@@ -22,16 +22,11 @@ pub(crate) fn fit<V: Copy>(s: &[u8], at: usize, w: &[u8], value: V) -> Result<Re
     ensures { Told s.now at (among ((w.now ↝ value) ∷ []) (drop at s.now)) (λ v. v) result }
 {
     let mut i = at;
-    let mut j = 0;
-    while j < w.len() {
-        if s.len() <= i {
-            return Err(Stuck { at: i });
-        }
-        if s[i] != w[j] {
+    for b in w {
+        if s.len() <= i || s[i] != *b {
             return Err(Stuck { at: i });
         }
         i += 1;
-        j += 1;
     }
     Ok(Read { value, end: i })
 }

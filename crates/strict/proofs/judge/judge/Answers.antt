@@ -1,11 +1,11 @@
--- `judge` meets its contract: the rest, where it is not found without, is that something stands behind the type.
+-- `judge` meets its contract: what is refused is stuck, or has something behind the type.
 use Rattle.strict.proofs.Judging as L
-use Rattle.strict.specs.Whole as M
-use Rattle.strict.specs.Plain as P
-use mathlib.Core.Path.{sym, ap, ◌∙◌}
+use mathlib.Core.Path.{◌∙◌}
 use Rattle.strict.proofs.judge.judge.Goals as goal
+use Rattle.strict.proofs.judge.judge.Goals.{in_default-via-in-Ok+else-r-text, in_default-via-in_default}
 
-pub returns-then-read-text : goal.returns-then-read-text
-returns-then-read-text c = let m = c.read_whole-read in let w = c.in-Ok.read in let t = c.in-Ok.ensures in
-    c.refuse-then-read-text.ensures ∙ L.other c.args.text.now (M.entire m.new.shape m.new.strides m.new.tile m.new.map m.new.walk w.value) w.end t.inside c.if-read-text.true
-    ∙ sym (ap P.judged t.same)
+pub returns-in_default : goal.returns-in_default
+returns-in_default c = let t = c.read_whole-read.ensures in c.refuse.ensures ∙ elim c.in_default.branch [
+  | in_default-via-in-Ok+else-r-text w ↦ L.behind c.args.text.now t w.in-Ok.is w.if-r-text.false
+  | in_default-via-in_default w ↦ L.halted c.args.text.now t w.in_default.is
+]
