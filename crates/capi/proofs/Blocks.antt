@@ -5,7 +5,7 @@ use mathlib.Core.Bool.{Bool, true, false, ◌&&◌, false≢true}
 use mathlib.Core.List.{◌++◌, append-nil}
 use mathlib.Core.Path.{◌≡◌, refl, sym, ap, ◌∙◌}
 use borrow.Rule.Slice.PartMut.{put_mid}
-use borrow.Author.Tests.{eqb-true, eq-eqb, ne_eqb}
+use borrow.Author.Tests.{eqb-true}
 use lib.Dec.{eqb, leb}
 use lib.ListN.{length, take, drop, get_or, length-append, length-drop, take-append-drop, drop_of_length-le}
 use lib.Seq.{take_at}
@@ -66,12 +66,6 @@ sure false f = absurd (f refl)
 module _ (size : ℕ) (b : Text) where
   pub long : formed size b ≡ true → length b ≡ size + 3
   long e = eqb-true (length b) (size + 3) (both (eqb (length b) (size + 3)) (leb (get_or b (size + 2) 0) 1) e).0
-
-  pub wrong_size : (length b ≡ size + 3 → ⊥) → false ≡ formed size b
-  wrong_size h = rw (ne_eqb (length b) (size + 3) h)
-
-  pub by_mark : length b ≡ size + 3 → leb (get_or b (size + 2) 0) 1 ≡ formed size b
-  by_mark h = rw (eq-eqb (length b) (size + 3) h)
 
   pub unformed : formed size b ≡ false → lent size b ≡ None
   unfolding lent

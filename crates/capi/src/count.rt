@@ -33,6 +33,7 @@ pub struct TypetextRow {
     pub refusal: u8,
 }
 
+#[tactic(auto, unfolding(crate::specs::Sheets::total_numbers))]
 fn total_numbers(t: Totals) -> TypetextTotals
     ensures { result ≡ total_numbers t }
 {
@@ -68,6 +69,7 @@ pub extern "C" fn typetext_totals(sheet: &[u8]) -> TypetextTotals
 
 // The row that begins at a place, and the place of the next. Any bytes and any place get an answer.
 #[unsafe(no_mangle)]
+#[tactic(auto, unfolding(crate::specs::Sheets::row_numbers))]
 pub extern "C" fn typetext_next_row(sheet: &[u8], place: usize) -> TypetextRow
     ensures { result ≡ row_numbers (sheet_number sheet.now) place (cut 65536 sheet.now place) }
 {

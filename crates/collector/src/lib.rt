@@ -38,6 +38,7 @@ pub fn number(fed: Result<(), Refused>) -> u8
 
 impl Collector {
     // A collector that holds nothing yet.
+    #[tactic(auto, unfolding(crate::specs::Collecting::fresh))]
     pub fn fresh() -> Collector
         ensures { result ≡ fresh 1024 }
     {

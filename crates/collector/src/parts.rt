@@ -7,7 +7,9 @@ ghost use Rattle.collector.specs.Parts.{of_parts};
 use crate::{Refused, SIZE};
 use meaning::{Reading, Refusal, refuse};
 
-// Whether only zeros stand there. No early end, so that a machine looks at many bytes in one step.
+// Whether only zeros stand there.
+// kept: `all` ends early, and a machine then looks at one byte in a step, and not at many (docs/DECISIONS.md, 43)
+#[tactic(auto, using(crate::proofs::Order::looked, crate::proofs::Order::all_looked))]
 fn all_zero(part: &[u8]) -> bool
     ensures { result ≡ zeros part.now }
 {
@@ -78,6 +80,7 @@ pub fn end_parts(bytes: &mut [u8], len: &mut usize, over: &mut bool) -> Reading
 }
 
 // The end's answer, for a collector in order.
+#[tactic(auto, unfolding(crate::specs::Collecting::held))]
 fn read(bytes: &[u8], len: usize, over: bool) -> Reading
     requires { in_order 1024 (of_parts bytes.now len over) ≡ true }
     ensures { result ≡ answer 8 1024 (held (of_parts bytes.now len over)) }

@@ -8,7 +8,7 @@ use native.Mathlib.Omega.{arith}
 use mathlib.Core.Bool.{Bool, true, false, ◌&&◌}
 use mathlib.Core.List.{List, [], ◌∷◌}
 use mathlib.Core.Path.{◌≡◌, refl, sym, ap, subst, ◌∙◌}
-use borrow.Author.Tests.{leb-true, ltb-true, ltb-false, le-leb, lt-ltb, le-ltb}
+use borrow.Author.Tests.{leb-true, ltb-true, ltb-false, le-leb}
 use lib.Dec.{eqb, leb, ltb}
 use lib.ListN.{length, take, drop, length-drop, drop_of_length-le}
 use lib.Seq.{drop-drop}
@@ -16,25 +16,6 @@ use Rattle.lexis.specs.Text.{Text, onto_first, until}
 use Rattle.lexis.proofs.Seeking.{until_within, until_take}
 use Rattle.sheet.specs.declared.Cut.{Cut}
 use Rattle.sheet.specs.Sheet.{rows, behind, row_at, cut, stretch, bytes_of}
-
--- ── the pieces of `cut_at` and `part` ──
-
-module _ (s : Text) (end : ℕ) where
-  pub with_feed : end < length s → end + 1 ≡ behind s end
-  with_feed h = rw (lt-ltb end (length s) h)
-
-  pub without_feed : length s ≤ end → end ≡ behind s end
-  without_feed h = rw (le-ltb end (length s) h)
-
-module _ (limit : ℕ) (s : Text) (p : ℕ) where
-  pub cut_row : {end next : ℕ} → leb (length s) limit && ltb p (length s) ≡ true → end ≡ p + length (until (eqb 10) (drop p s)) → next ≡ behind s end
-      → Some (record { first = p; end = end; next = next }) ≡ cut limit s p
-  unfolding cut
-  cut_row {end} {next} h e n = rw (h, n, e)
-
-  pub cut_none : leb (length s) limit && ltb p (length s) ≡ false → None ≡ cut limit s p
-  unfolding cut
-  cut_none h = rw h
 
 -- ── the first row of a rest ──
 

@@ -12,6 +12,7 @@ fn behind(sheet: &[u8], end: usize) -> usize
 }
 
 // The row that begins at `place`: up to the next line feed, or to the end. A sheet over the limit has none, nor is there one past the end.
+#[tactic(auto, unfolding(crate::specs::Sheet::cut))]
 pub fn cut_at(sheet: &[u8], place: usize) -> Option<Cut>
     ensures { result ≡ cut 65536 sheet.now place }
 {
