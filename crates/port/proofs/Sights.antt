@@ -1,8 +1,8 @@
 -- Laws of what the three views share, by what the callees tell: the tile shape, the inner tensor view, the whole view; and of the three views themselves.
-use Rattle.std.specs.Prelude.{if◌then◌else◌, Option, None, Some}
+use Rattle.std.specs.Prelude.{Option, None, Some}
 use Prim.Native.Nat.{ℕ, ◌+◌, ◌-◌, ◌≤◌, ◌<◌}
 use native.Mathlib.Omega.{arith}
-use mathlib.Core.Bool.{Bool, true, false, false≢true}
+use mathlib.Core.Bool.{false}
 use mathlib.Core.List.{List, []}
 use mathlib.Core.Path.{◌≡◌, refl, sym, ap, subst, ◌∙◌}
 use lib.IntN.{ℤ, pos}
@@ -104,15 +104,15 @@ module _ (s : Text) (i : ℕ) where
   untiled nowhere h = refl
   untiled (at u b) h = absurd h
 
-  fits : {t : TileShape} (c : Cut) → TileIs s i (Some t) c → (i + 6 ≤ t.behind) × (t.behind ≤ length s)
-  fits nowhere h = absurd h
-  fits (at u b) h = (h.past, h.fits)
+  fits : (t : TileShape) (c : Cut) → TileIs s i (Some t) c → (i + 6 ≤ t.behind) × (t.behind ≤ length s)
+  fits t nowhere h = absurd h
+  fits t (at u b) h = (h.past, h.fits)
 
   -- what is read behind the tile, with the padding
-  behind_tile : {t : TileShape} (c : Cut) → TileIs s i (Some t) c → {o : Option Tensor} → TensorIs o (W.inner_by (W.opened s (drop t.behind s)))
+  behind_tile : (t : TileShape) (c : Cut) → TileIs s i (Some t) c → {o : Option Tensor} → TensorIs o (W.inner_by (W.opened s (drop t.behind s)))
       → each (wrap (list t.tile) (W.padding s)) (each tensor_parts o) ≡ each (viewed 8) (W.view_by s c)
-  behind_tile nowhere h g = absurd h
-  behind_tile (at u b) h g =
+  behind_tile t nowhere h g = absurd h
+  behind_tile t (at u b) h g =
       (λ i. each (wrap (h.tile i) (W.padding s)) (g.is i)) ∙
       ap (λ (b : Text). each (wrap (laid 8 (stands (W.tile_entries u))) (W.padding s)) (each (tensored 8) (W.inner_by (W.opened s b)))) h.onward ∙
       wrapped (W.tile_entries u) (W.padding s) (W.inner_by (W.opened s b))
@@ -124,16 +124,21 @@ module _ (s : Text) (i : ℕ) where
 
     module _ {t : TileShape} (e : r ≡ Some t) where
       pub behind_fits : (i + 6 ≤ t.behind) × (t.behind ≤ length s)
-      behind_fits = fits (between (bytes "tile=(") (bytes ")") s) (rw e at h)
+      behind_fits = fits t (between (bytes "tile=(") (bytes ")") s) (rw e at h)
 
       module _ {o : Option Tensor} (g : TensorIs o (W.inner_by (W.opened s (drop t.behind s)))) where
+        seen : each (wrap (list t.tile) (W.padding s)) (each tensor_parts o) ≡ each (viewed 8) (W.view_by s (between (bytes "tile=(") (bytes ")") s))
+        seen = behind_tile t (between (bytes "tile=(") (bytes ")") s) (rw e at h) g
+
         pub no_tensor_view : {v : Option View} → o ≡ None → v ≡ None → ViewIs v (W.view s)
         unfolding W.view
-        no_tensor_view n f = rw f (record { is = rw n at behind_tile (between (bytes "tile=(") (bytes ")") s) (rw e at h) g })
+        no_tensor_view n f = rw f (record { is = sym (ap (λ (o : Option Tensor). each (wrap (list t.tile) (W.padding s)) (each tensor_parts o)) n) ∙ seen })
 
         pub whole_view : {v : Tensor} {q : Padding} → o ≡ Some v → q ≡ W.padding s → ViewIs (Some (record { tile = t.tile; tensor = v; padding = q })) (W.view s)
         unfolding W.view
-        whole_view n f = record { is = rw (n, sym f) at behind_tile (between (bytes "tile=(") (bytes ")") s) (rw e at h) g }
+        whole_view {v} n f = record {
+          is = (λ i. Some (wrap (list t.tile) (f i) (tensor_parts v))) ∙ sym (ap (λ (o : Option Tensor). each (wrap (list t.tile) (W.padding s)) (each tensor_parts o)) n) ∙ seen;
+        }
 
 -- ── the three views ──
 
