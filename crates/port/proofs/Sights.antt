@@ -1,5 +1,6 @@
 -- Laws of what the three views share, by what the callees tell: the tile shape, the inner tensor view, the whole view; and of the three views themselves.
 use Rattle.std.specs.Prelude.{Option, None, Some}
+use Rattle.std.proofs.Common.{Bor}
 use Prim.Native.Nat.{ℕ, ◌+◌, ◌-◌, ◌≤◌, ◌<◌}
 use native.Mathlib.Omega.{arith}
 use mathlib.Core.Bool.{false}
@@ -28,7 +29,7 @@ use Rattle.port.specs.Carried.{Carried, carried, built, fell, Tensored, tensored
 use Rattle.port.specs.declared.tensor_view.Tensor.{Tensor}
 use Rattle.port.specs.declared.views.TileShape.{TileShape}
 use Rattle.port.specs.declared.views.View.{View}
-use Rattle.port.specs.declared.views.Closed.TheVariants as C
+use Rattle.port.specs.declared.views.Listed.TheVariants as C
 use Rattle.port.proofs.Bracketing.{close_at, close_nowhere}
 use Rattle.port.proofs.Building as B
 use Rattle.port.proofs.Clauses.{next, next_within, no_next, entries_are, list_or_laid}
@@ -188,7 +189,7 @@ module _ (s : Text) {r : Option View} (g : ViewIs r (W.view s)) where
     or_own c q e h = h ∙ ap (λ (o : Laid). list_laid o q) e ∙ list_or_laid c q
 
     -- an unclosed list refuses a partition view
-    pub partition_unclosed : ListIs s C.Unclosed (W.list_after (bytes "dim_map=[") s) → None ≡ each (carried 8) (W.partition_view s)
+    pub partition_unclosed : ListIs C.Unclosed (W.list_after (bytes "dim_map=[") s) → None ≡ each (carried 8) (W.partition_view s)
     unfolding W.partition_view
     partition_unclosed l = λ i. each (carried 8) (W.partition_from (l.is i) (sym has.is i))
 
@@ -199,14 +200,14 @@ module _ (s : Text) {r : Option View} (g : ViewIs r (W.view s)) where
         built_is map traversal sparse a b c = w ∙ ap Some (B.view_is (view_parts v) k map traversal sparse has.value has.same a b c)
 
       module _ (w : x ≡ view_built K.Partition v m t z) (b : t ≡ laid 8 unused) (c : z ≡ laid 8 unused) where
-        pub partition_listed : (a e : ℕ) → ListIs s (C.Between a e) (W.list_after (bytes "dim_map=[") s)
-            → m ≡ laid 8 (smalls (pos 0) (split 44 (take (e - a) (drop a s)))) → x ≡ each (carried 8) (W.partition_view s)
+        pub partition_listed : (u : Bor Text) → ListIs (C.Between u) (W.list_after (bytes "dim_map=[") s)
+            → m ≡ laid 8 (smalls (pos 0) (split 44 u.now)) → x ≡ each (carried 8) (W.partition_view s)
         unfolding W.partition_view
-        partition_listed a e l d =
-            built_is K.Partition w (W.entries (take (e - a) (drop a s))) unused unused (entries_are (take (e - a) (drop a s)) d) b c ∙
+        partition_listed u l d =
+            built_is K.Partition w (W.entries u.now) unused unused (entries_are u.now d) b c ∙
             (λ i. each (carried 8) (W.partition_from (l.is i) (sym has.is i)))
 
-        pub partition_absent : ListIs s C.Absent (W.list_after (bytes "dim_map=[") s)
+        pub partition_absent : ListIs C.Absent (W.list_after (bytes "dim_map=[") s)
             → m ≡ laid 8 (filled (W.count_up 0 v.tile.row.len)) → x ≡ each (carried 8) (W.partition_view s)
         unfolding W.partition_view
         partition_absent l d =

@@ -21,15 +21,6 @@ returns-in_default c = let a = c.args in
 pub list_after-requires : goal.list_after-requires
 list_after-requires c = c.requires.map
 
-pub slice_bounds-parse_smalls-count : goal.slice_bounds-parse_smalls-count
-slice_bounds-parse_smalls-count c = let g = L.told c.list_after.ensures c.in-Between.is in omega arith
-
-pub slice_bounds-parse_smalls-start : goal.slice_bounds-parse_smalls-start
-slice_bounds-parse_smalls-start c = let g = L.told c.list_after.ensures c.in-Between.is in omega arith
-
-pub slice_bounds-parse_smalls-end : goal.slice_bounds-parse_smalls-end
-slice_bounds-parse_smalls-end c = let g = L.told c.list_after.ensures c.in-Between.is in omega arith
-
 pub view_of-requires-in-Absent : goal.view_of-requires-in-Absent
 view_of-requires-in-Absent c = let v = S.sound c.args.inner.now c.parse_view.ensures c.in-Some.is in record {
   shape = v.0;
@@ -55,7 +46,7 @@ view_of-requires c = let s = c.args.inner.now in let n = c.in-Between in
     let v = S.sound s c.parse_view.ensures c.in-Some.is in record {
       shape = v.0;
       strides = v.1;
-      map = M.sound_list (smalls (pos 0) (split 44 (take (n.e - n.a) (drop n.a s)))) c.parse_smalls.ensures;
+      map = M.sound_list (smalls (pos 0) (split 44 n.l.now)) c.parse_smalls.ensures;
       traversal = M.sound_list unused c.none.ensures;
       sparse = M.sound_one unused c.none-in-Between.ensures (omega arith);
     }
@@ -64,4 +55,4 @@ pub returns-in-Between : goal.returns-in-Between
 returns-in-Between c = let a = c.args in let n = c.in-Between in
     c.view_of.ensures ∙ ap (answered a.marked) (S.partition_listed a.inner.now c.parse_view.ensures c.in-Some.is
     refl c.none.ensures c.none-in-Between.ensures
-    n.a n.e (L.told c.list_after.ensures n.is) c.parse_smalls.ensures)
+    n.l (L.told c.list_after.ensures n.is) c.parse_smalls.ensures)
