@@ -1,5 +1,5 @@
 -- A whole strict form, as the code reads it: the first word tells the kind and what follows.
-use Rattle.std.specs.Prelude.{ℕ, Bool, true, false, List, ℤ, pos}
+use Rattle.std.specs.Prelude.{ℕ, Bool, true, false, List, [], ℤ, pos}
 use Rattle.scalars.specs.declared.scalar.Scalar.{Scalar}
 use Rattle.scalars.specs.declared.scalar.Scalar.TheVariants.{I1}
 use Rattle.meaning.specs.declared.Kind.{Kind}
@@ -16,6 +16,8 @@ use Rattle.strict.specs.Views.{Viewed, viewed, entries, walking, mid, sight, end
 use Rattle.strict.specs.declared.heads.Head.{Head}
 use Rattle.strict.specs.declared.heads.Head.TheVariants as H
 use Rattle.strict.specs.declared.whole.Whole.{Whole}
+use Rattle.strict.specs.declared.whole.Lists.{Lists}
+use Rattle.meaning.specs.Found.{padded}
 
 -- a type of any rank: what the grammar and the code both say of a text
 pub record Plain : Type 0 where
@@ -131,6 +133,14 @@ entire l m x y z w = record {
   sparse = w.sparse;
   padding = w.padding;
 }
+
+-- with its lists
+abbrev pub laid : Lists → Whole → Plain
+laid l w = entire l.shape l.strides l.tile l.map l.walk w
+
+-- lists without an entry
+abbrev pub blank : Lists
+blank = record { shape = padded 8 []; strides = padded 8 []; tile = padded 8 []; map = padded 8 []; walk = padded 8 [] }
 
 -- the code's types that are no view
 abbrev pub plainly : Kind → Bool → Scalar → Bool → ℕ → ℕ → Whole

@@ -1,21 +1,14 @@
 // What was read, laid out as a record and judged: refusal 5, then refusal 4.
 ghost use Rattle.std.specs.Prelude.{◌≡◌, ◌&&◌, leb};
-ghost use Rattle.strict.specs.Whole.{entire, whole};
+ghost use Rattle.strict.specs.Whole.{laid, whole};
 ghost use Rattle.strict.specs.Plain.{record_of, judged};
 
-use super::whole::{Whole, read_whole};
+use super::whole::{Lists, Whole, read_whole};
 use meaning::{CAP, Reading, Record, Refusal, no_note, refuse};
 
 // The type as a record.
-fn record_of(
-    w: &Whole,
-    shape: [i64; CAP],
-    strides: [i64; CAP],
-    tile: [i32; CAP],
-    map: [i32; CAP],
-    walk: [i32; CAP],
-) -> Record
-    ensures { result ≡ record_of (entire shape strides tile map walk w.now) }
+fn record_of(w: &Whole, lists: &Lists) -> Record
+    ensures { result ≡ record_of (laid lists.now w.now) }
 {
     let kind = w.kind;
     let sparse = w.sparse;
@@ -24,15 +17,15 @@ fn record_of(
         element: w.element,
         pointer: w.pointer,
         attribute: w.marked,
-        shape,
+        shape: lists.shape,
         shape_len: w.shape,
-        strides,
+        strides: lists.strides,
         strides_len: w.strides,
-        tile,
+        tile: lists.tile,
         tile_len: w.tile,
-        map,
+        map: lists.map,
         map_len: w.map,
-        traversal: walk,
+        traversal: lists.walk,
         traversal_len: w.walk,
         sparse,
         padding: w.padding,
@@ -50,19 +43,8 @@ fn within(w: &Whole) -> bool
 pub(crate) fn judge(text: &[u8]) -> Reading
     ensures { result ≡ judged (whole text.now) }
 {
-    let mut shape = [0i64; CAP];
-    let mut strides = [0i64; CAP];
-    let mut tile = [0i32; CAP];
-    let mut map = [0i32; CAP];
-    let mut walk = [0i32; CAP];
-    let read = read_whole(
-        text,
-        &mut shape,
-        &mut strides,
-        &mut tile,
-        &mut map,
-        &mut walk,
-    );
+    let mut lists = Lists::blank();
+    let read = read_whole(text, &mut lists);
     let w = match &read {
         Ok(r) if r.end == text.len() => &r.value,
         _ => return refuse(Refusal::NotStrict, 0),
@@ -70,7 +52,7 @@ pub(crate) fn judge(text: &[u8]) -> Reading
     if !within(w) {
         return refuse(Refusal::TooMany, 0);
     }
-    let value = record_of(w, shape, strides, tile, map, walk);
+    let value = record_of(w, &lists);
     Reading {
         refusal: Refusal::Accepted,
         place: 0,

@@ -1,8 +1,7 @@
 // A whole strict form: the first word tells the kind and what follows.
-ghost use Rattle.std.specs.Prelude.{◌≡◌, [], drop, length, ◌≤◌, not};
-ghost use Rattle.meaning.specs.Found.{padded};
+ghost use Rattle.std.specs.Prelude.{◌≡◌, drop, length, ◌≤◌, not};
 ghost use Rattle.strict.specs.Cursor.{Told};
-ghost use Rattle.strict.specs.Whole.{plainly, is_strided, is_gather, entire, view, whole};
+ghost use Rattle.strict.specs.Whole.{plainly, is_strided, is_gather, blank, laid, view, whole};
 
 use super::cursor::{Read, Stuck};
 use super::heads::{Head, read_head};
@@ -10,7 +9,7 @@ use super::inner::{read_pointee, read_tensor, read_tile};
 use super::list::read_entries;
 use super::middles::read_mid;
 use super::view::{read_last, read_sight, read_walk};
-use meaning::{Kind, Padding};
+use meaning::{CAP, Kind, Padding};
 use scalars::Scalar;
 
 // A type of any rank, with how many entries its lists have.
@@ -27,6 +26,31 @@ pub(crate) struct Whole {
     pub(crate) walk: usize,
     pub(crate) sparse: i32,
     pub(crate) padding: Padding,
+}
+
+// The lists of a type, each up to the capacity.
+#[derive(Drop)]
+pub(crate) struct Lists {
+    pub(crate) shape: [i64; CAP],
+    pub(crate) strides: [i64; CAP],
+    pub(crate) tile: [i32; CAP],
+    pub(crate) map: [i32; CAP],
+    pub(crate) walk: [i32; CAP],
+}
+
+impl Lists {
+    // No list has an entry yet.
+    pub(crate) fn blank() -> Lists
+        ensures { result ≡ blank }
+    {
+        Lists {
+            shape: [0; CAP],
+            strides: [0; CAP],
+            tile: [0; CAP],
+            map: [0; CAP],
+            walk: [0; CAP],
+        }
+    }
 }
 
 // A type that is no view.
@@ -70,31 +94,18 @@ fn is_gather(kind: Kind) -> bool
 }
 
 // After the first word: a partition view, a gather-scatter view or a strided view.
-fn read_view(
-    s: &[u8],
-    at: usize,
-    kind: Kind,
-    shape: &mut [i64],
-    strides: &mut [i64],
-    tile: &mut [i32],
-    map: &mut [i32],
-    walk: &mut [i32],
-) -> Result<Read<Whole>, Stuck>
+fn read_view(s: &[u8], at: usize, kind: Kind, lists: &mut Lists) -> Result<Read<Whole>, Stuck>
     requires at_in_bounds { at ≤ length s.now }
-    requires shape_value { shape.old ≡ padded 8 [] }
-    requires strides_value { strides.old ≡ padded 8 [] }
-    requires tile_value { tile.old ≡ padded 8 [] }
-    requires map_value { map.old ≡ padded 8 [] }
-    requires walk_value { walk.old ≡ padded 8 [] }
-    ensures { Told s.now at (view kind (not (is_strided kind)) (is_gather kind) (drop at s.now)) (entire shape.new strides.new tile.new map.new walk.new) result }
+    requires no_entry { lists.old ≡ blank }
+    ensures { Told s.now at (view kind (not (is_strided kind)) (is_gather kind) (drop at s.now)) (laid lists.new) result }
 {
     let bare = !is_strided(kind);
     let sparse = is_gather(kind);
-    let t = read_entries(s, at, tile)?;
-    let w = read_walk(s, t.end, bare, walk)?;
+    let t = read_entries(s, at, &mut lists.tile)?;
+    let w = read_walk(s, t.end, bare, &mut lists.walk)?;
     let m = read_mid(s, w.end, bare)?;
-    let v = read_sight(s, m.end, m.value, shape, strides)?;
-    let e = read_last(s, v.end, sparse, map)?;
+    let v = read_sight(s, m.end, m.value, &mut lists.shape, &mut lists.strides)?;
+    let e = read_last(s, v.end, sparse, &mut lists.map)?;
     let tensor = v.value.tensor;
     Ok(Read {
         value: Whole {
@@ -114,21 +125,10 @@ fn read_view(
     })
 }
 
-// A whole strict form from the start of the text. Its lists are laid into five blank ones.
-pub(crate) fn read_whole(
-    s: &[u8],
-    shape: &mut [i64],
-    strides: &mut [i64],
-    tile: &mut [i32],
-    map: &mut [i32],
-    walk: &mut [i32],
-) -> Result<Read<Whole>, Stuck>
-    requires shape_value { shape.old ≡ padded 8 [] }
-    requires strides_value { strides.old ≡ padded 8 [] }
-    requires tile_value { tile.old ≡ padded 8 [] }
-    requires map_value { map.old ≡ padded 8 [] }
-    requires walk_value { walk.old ≡ padded 8 [] }
-    ensures { Told s.now 0 (whole s.now) (entire shape.new strides.new tile.new map.new walk.new) result }
+// A whole strict form from the start of the text. Its lists are laid into blank ones.
+pub(crate) fn read_whole(s: &[u8], lists: &mut Lists) -> Result<Read<Whole>, Stuck>
+    requires no_entry { lists.old ≡ blank }
+    ensures { Told s.now 0 (whole s.now) (laid lists.new) result }
 {
     let h = read_head(s)?;
     match h.value {
@@ -149,7 +149,7 @@ pub(crate) fn read_whole(
             })
         }
         Head::Tile => {
-            let t = read_tile(s, h.end, shape)?;
+            let t = read_tile(s, h.end, &mut lists.shape)?;
             let c = t.value.core;
             Ok(Read {
                 value: made(Kind::Tile, c.pointer, c.element, c.marked, t.value.rank, 0),
@@ -157,7 +157,7 @@ pub(crate) fn read_whole(
             })
         }
         Head::TensorView => {
-            let t = read_tensor(s, h.end, shape, strides)?;
+            let t = read_tensor(s, h.end, &mut lists.shape, &mut lists.strides)?;
             let v = t.value;
             Ok(Read {
                 value: made(
@@ -171,17 +171,8 @@ pub(crate) fn read_whole(
                 end: t.end,
             })
         }
-        Head::Partition => read_view(s, h.end, Kind::Partition, shape, strides, tile, map, walk),
-        Head::GatherScatter => read_view(
-            s,
-            h.end,
-            Kind::GatherScatter,
-            shape,
-            strides,
-            tile,
-            map,
-            walk,
-        ),
-        Head::Strided => read_view(s, h.end, Kind::Strided, shape, strides, tile, map, walk),
+        Head::Partition => read_view(s, h.end, Kind::Partition, lists),
+        Head::GatherScatter => read_view(s, h.end, Kind::GatherScatter, lists),
+        Head::Strided => read_view(s, h.end, Kind::Strided, lists),
     }
 }

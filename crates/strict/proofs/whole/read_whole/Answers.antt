@@ -11,11 +11,11 @@ returns-in_err-h c = H.stops _ c.in_err-h.ensures c.from_residual.ensures.1
 
 pub returns-in-Scalar : goal.returns-in-Scalar
 unfolding whole
-returns-in-Scalar c = H.goes _ c.in_ok-h.ensures (H.same_as (ap (λ v. from_head v (drop c.in_ok-h.h.end c.args.s.now)) c.in-Scalar.is) (H.done (rw (c.made.ensures, c.requires.shape_value, c.requires.strides_value, c.requires.tile_value, c.requires.map_value, c.requires.walk_value)) c.in_ok-h.ensures.inside))
+returns-in-Scalar c = H.goes _ c.in_ok-h.ensures (H.same_as (ap (λ v. from_head v (drop c.in_ok-h.h.end c.args.s.now)) c.in-Scalar.is) (H.done (rw (c.made.ensures, c.requires.no_entry)) c.in_ok-h.ensures.inside))
 
 pub returns-in-Token : goal.returns-in-Token
 unfolding whole
-returns-in-Token c = H.goes _ c.in_ok-h.ensures (H.same_as (ap (λ v. from_head v (drop c.in_ok-h.h.end c.args.s.now)) c.in-Token.is) (H.done (rw (c.made-in-Token.ensures, c.requires.shape_value, c.requires.strides_value, c.requires.tile_value, c.requires.map_value, c.requires.walk_value)) c.in_ok-h.ensures.inside))
+returns-in-Token c = H.goes _ c.in_ok-h.ensures (H.same_as (ap (λ v. from_head v (drop c.in_ok-h.h.end c.args.s.now)) c.in-Token.is) (H.done (rw (c.made-in-Token.ensures, c.requires.no_entry)) c.in_ok-h.ensures.inside))
 
 pub returns-in_err-p-in-Pointer : goal.returns-in_err-p-in-Pointer
 unfolding whole
@@ -23,7 +23,7 @@ returns-in_err-p-in-Pointer c = H.goes _ c.in_ok-h.ensures (H.same_as (ap (λ v.
 
 pub returns-in_ok-p-in-Pointer : goal.returns-in_ok-p-in-Pointer
 unfolding whole
-returns-in_ok-p-in-Pointer c = H.goes _ c.in_ok-h.ensures (H.same_as (ap (λ v. from_head v (drop c.in_ok-h.h.end c.args.s.now)) c.in-Pointer.is) (H.ends _ c.in_ok-p-in-Pointer.ensures (rw (c.made-in-Pointer.ensures, c.requires.shape_value, c.requires.strides_value, c.requires.tile_value, c.requires.map_value, c.requires.walk_value))))
+returns-in_ok-p-in-Pointer c = H.goes _ c.in_ok-h.ensures (H.same_as (ap (λ v. from_head v (drop c.in_ok-h.h.end c.args.s.now)) c.in-Pointer.is) (H.ends _ c.in_ok-p-in-Pointer.ensures (rw (c.made-in-Pointer.ensures, c.requires.no_entry))))
 
 pub returns-in_err-t-in-Tile : goal.returns-in_err-t-in-Tile
 unfolding whole
@@ -31,7 +31,7 @@ returns-in_err-t-in-Tile c = H.goes _ c.in_ok-h.ensures (H.same_as (ap (λ v. fr
 
 pub returns-in_ok-t-in-Tile : goal.returns-in_ok-t-in-Tile
 unfolding whole
-returns-in_ok-t-in-Tile c = H.goes _ c.in_ok-h.ensures (H.same_as (ap (λ v. from_head v (drop c.in_ok-h.h.end c.args.s.now)) c.in-Tile.is) (H.ends _ c.in_ok-t-in-Tile.ensures (rw (c.made-in-Tile.ensures, c.requires.strides_value, c.requires.tile_value, c.requires.map_value, c.requires.walk_value))))
+returns-in_ok-t-in-Tile c = H.goes _ c.in_ok-h.ensures (H.same_as (ap (λ v. from_head v (drop c.in_ok-h.h.end c.args.s.now)) c.in-Tile.is) (H.ends _ c.in_ok-t-in-Tile.ensures (rw (c.made-in-Tile.ensures, c.requires.no_entry))))
 
 pub returns-in_err-t-in-TensorView : goal.returns-in_err-t-in-TensorView
 unfolding whole
@@ -39,7 +39,7 @@ returns-in_err-t-in-TensorView c = H.goes _ c.in_ok-h.ensures (H.same_as (ap (λ
 
 pub returns-in_ok-t-in-TensorView : goal.returns-in_ok-t-in-TensorView
 unfolding whole
-returns-in_ok-t-in-TensorView c = H.goes _ c.in_ok-h.ensures (H.same_as (ap (λ v. from_head v (drop c.in_ok-h.h.end c.args.s.now)) c.in-TensorView.is) (H.ends _ c.in_ok-t-in-TensorView.ensures (rw (c.made-in-TensorView.ensures, c.requires.tile_value, c.requires.map_value, c.requires.walk_value))))
+returns-in_ok-t-in-TensorView c = H.goes _ c.in_ok-h.ensures (H.same_as (ap (λ v. from_head v (drop c.in_ok-h.h.end c.args.s.now)) c.in-TensorView.is) (H.ends _ c.in_ok-t-in-TensorView.ensures (rw (c.made-in-TensorView.ensures, c.requires.no_entry))))
 
 pub returns-in-Partition : goal.returns-in-Partition
 unfolding whole
