@@ -1,5 +1,5 @@
 -- What the port's parts answer, for private contracts: a type that was found, each list as it is carried, and the reading that is made of it.
-use Rattle.std.specs.Prelude.{if◌then◌else◌, ℕ, zero, suc, ◌+◌, ◌-◌, ◌≤◌, Bool, false, ◌&&◌, ◌||◌, ◌≡◌, pos, leb, get_or, length, take, drop, Option, None, Some}
+use Rattle.std.specs.Prelude.{if◌then◌else◌, ℕ, zero, suc, ◌+◌, ◌≤◌, Bool, false, ◌&&◌, ◌||◌, ◌≡◌, pos, leb, get_or, length, drop, Option, None, Some}
 use Rattle.lexis.specs.Text.{Text, Cut, nowhere, at}
 use Rattle.scalars.specs.declared.scalar.Scalar.{Scalar}
 use Rattle.meaning.specs.Found.{stands, Found}

@@ -181,13 +181,9 @@ fn view_of(
     ensures { result ≡ answered marked (Some (built kind v.tensor.element false (list v.tensor.shape) (list v.tensor.strides) (list v.tile) (list map) (list traversal) (list sparse) v.padding)) }
 {
     let t = v.tensor;
-    let element = t.element;
-    let shape = t.shape;
-    let strides = t.strides;
-    let tile = v.tile;
-    let padding = v.padding;
     made(
-        kind, element, false, shape, strides, tile, map, traversal, sparse, padding, marked,
+        kind, t.element, false, t.shape, t.strides, v.tile, map, traversal, sparse, v.padding,
+        marked,
     )
 }
 
@@ -199,7 +195,6 @@ pub(crate) fn parse_partition_view(inner: &[u8], k: Places, marked: bool) -> Rea
     let Some(v) = parse_view(inner, k) else {
         return refuse(Refusal::NoType, 0);
     };
-    let tile = v.tile;
     match list_after(inner, b"dim_map=[", k.map) {
         Listed::Between(l) => {
             view_of(
@@ -215,7 +210,7 @@ pub(crate) fn parse_partition_view(inner: &[u8], k: Places, marked: bool) -> Rea
         Listed::Absent => view_of(
             Kind::Partition,
             v,
-            lists::count_up(tile.row.len),
+            lists::count_up(v.tile.row.len),
             Smalls::none(),
             Smalls::none(),
             marked,
@@ -247,8 +242,7 @@ pub(crate) fn parse_strided_view(inner: &[u8], k: Places, marked: bool) -> Readi
     let Some(v) = parse_view(inner, k) else {
         return refuse(Refusal::NoType, 0);
     };
-    let tile = v.tile;
-    let n = tile.row.len;
+    let n = v.tile.row.len;
     let map = parse_i32_list_after(inner, b"dim_map=[", k.map, lists::count_up(n));
     let traversal = parse_i32_list_after(
         inner,

@@ -2,7 +2,6 @@
 use mathlib.Core.Path.{sym, ◌∙◌, refl}
 use native.Mathlib.Omega.{arith}
 use borrow.Author.Rules.{rules}
-use Rattle.lexis.specs.Text.{bytes}
 use Rattle.port.proofs.Clauses as L
 use Rattle.port.proofs.Placing as P
 use Rattle.port.proofs.views.list_after.Goals as goal

@@ -1,5 +1,5 @@
 -- `parse_i32_list_after` meets its contract: by the three answers that a list can be.
-use Rattle.std.proofs.Common.{rules, ◌∙◌}
+use Rattle.std.proofs.Common.{◌∙◌}
 use Rattle.lists.specs.Laid.{list}
 use Rattle.port.proofs.Clauses as L
 use Rattle.port.proofs.views.parse_i32_list_after.Goals as goal

@@ -1,9 +1,7 @@
 -- `parse_partition_view` meets its contract: by the three answers that the place of the map can be.
 use mathlib.Core.Path.{refl, ap, ◌∙◌}
 use native.Mathlib.Omega.{arith}
-use Prim.Native.Nat.{◌-◌}
 use lib.IntN.{pos}
-use lib.ListN.{take, drop}
 use Rattle.lexis.specs.Text.{split}
 use Rattle.meaning.specs.Found.{unused, filled}
 use Rattle.meaning.specs.Views.{count_up}
