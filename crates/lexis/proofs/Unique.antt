@@ -7,6 +7,10 @@ use mir.Syntax.{Dict}
 use Rattle.std.specs.declared.clone.Clone as Clone
 use Rattle.lexis.specs.declared.pattern.Pattern as Pattern
 use Rattle.lexis.proofs.blocks.seek.Reads as seek
+use Rattle.lexis.proofs.pattern.U8Pattern.matches.Reads as u8-matches
+use Rattle.lexis.proofs.pattern.WhitePattern.matches.Reads as white-matches
+use Rattle.lexis.proofs.pattern.InkPattern.matches.Reads as ink-matches
+use Rattle.lexis.proofs.pattern.OutsidePattern.matches.Reads as outside-matches
 use Rattle.lexis.proofs.text.same.Reads as same
 use Rattle.lexis.proofs.text.begins.Reads as begins
 use Rattle.lexis.proofs.text.find.Reads as find
@@ -47,6 +51,20 @@ find_one κs a x y s t p q = p ∙ sym q
 
 pub find_by_one : One find-by.Post
 find_by_one κs a x y s t p q = p ∙ sym q
+
+-- ── a byte beside each pattern ──
+
+pub byte_one : One u8-matches.Post
+byte_one κs a x y s t p q = p ∙ sym q
+
+pub white_one : One white-matches.Post
+white_one κs a x y s t p q = p ∙ sym q
+
+pub ink_one : One ink-matches.Post
+ink_one κs a x y s t p q = p ∙ sym q
+
+pub outside_one : One outside-matches.Post
+outside_one κs a x y s t p q = p ∙ sym q
 
 -- ── returned slices ──
 

@@ -2,5 +2,6 @@
 pub mod Classes
 pub mod NoName
 pub mod Listed
+pub mod Naming
 pub mod Examples
 pub mod Unique
