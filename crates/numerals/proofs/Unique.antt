@@ -8,10 +8,22 @@ use Rattle.std.specs.Prelude.{option_map}
 use Rattle.std.specs.declared.clone.Clone as Clone
 use Rattle.lexis.proofs.Unique.{Alike}
 use Rattle.numerals.specs.declared.integer.Integer as Integer
+use Rattle.numerals.proofs.integer.Integer.plus.Reads as plus
+use Rattle.numerals.proofs.integer.Integer.minus.Reads as minus
+use Rattle.numerals.proofs.integer.Integer.wide.Reads as wide
 use Rattle.numerals.proofs.numeral.parse.Reads as parse
 use Rattle.numerals.proofs.part.parse_part.Reads as parse-part
 
 module _ (T : RattleType) (laws : Laws T) (copy : IsCopy T) (integer : Integer.Ghosts T.Denot) (d : Dict) (clone : Clone.Ghosts T.Denot) (e : Dict) where
+  pub plus_one : Alike (λ κs x. integer.is x) (plus.Post T laws copy integer d clone e)
+  plus_one κs a x y s t p q = p ∙ sym q
+
+  pub minus_one : Alike (λ κs x. integer.is x) (minus.Post T laws copy integer d clone e)
+  minus_one κs a x y s t p q = p ∙ sym q
+
+  pub wide_one : Alike (λ κs x. x) (wide.Post T laws copy integer d clone e)
+  wide_one κs a x y s t p q = p ∙ sym q
+
   pub parse_one : Alike (λ κs x. option_map integer.is x) (parse.Post T laws copy integer d clone e)
   parse_one κs a x y s t p q = p ∙ sym q
 
