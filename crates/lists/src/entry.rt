@@ -6,8 +6,7 @@ ghost use Rattle.meaning.specs.Tile.{dimension, read_or};
 ghost use Rattle.meaning.specs.Views.{small};
 ghost use Rattle.lists.specs.Laid.{said};
 
-// A dimension or stride whose size is not statically known.
-pub const DYNAMIC: i64 = i64::MIN;
+use meaning::DYNAMIC;
 
 // What an entry says: what was read, or the default that it fell back on.
 // kept: no `Result` is plainer, as an entry that fell back is no error and holds a value of the same type

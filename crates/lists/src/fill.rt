@@ -6,10 +6,9 @@ ghost use Rattle.meaning.specs.Views.{count_up};
 ghost use Rattle.lists.specs.Laid.{laid, listed, list};
 
 use super::entries::Entries;
-use super::entry::DYNAMIC;
 use super::list::{Dims, Listing, Smalls};
 use super::row::filled_in;
-use meaning::CAP;
+use meaning::{CAP, DYNAMIC};
 
 // `v`, n times.
 fn filled<A: Entries>(n: usize, v: A::Entry) -> Listing<A>

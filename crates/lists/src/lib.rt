@@ -8,7 +8,7 @@ mod list;
 mod row;
 
 pub use entries::Entries;
-pub use entry::{DYNAMIC, Entry, parse_dim, parse_small};
+pub use entry::{Entry, parse_dim, parse_small};
 pub use fill::{count_up, dynamic, ones, zero};
 pub use list::{Dims, Front, Listing, Smalls, parse_dims, parse_front, parse_one, parse_smalls};
 pub use row::{Row, Tally};

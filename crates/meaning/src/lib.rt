@@ -14,6 +14,9 @@ use scalars::Scalar;
 // A list holds at most this many entries.
 pub const CAP: usize = 8;
 
+// A dimension or stride whose size is not statically known, written `?`.
+pub const DYNAMIC: i64 = i64::MIN;
+
 // The kinds of a type.
 #[derive(Clone, Copy, PartialEq, Eq)]
 pub enum Kind {

@@ -13,7 +13,8 @@ use Rattle.scalars.specs.declared.scalar.Scalar.{Scalar}
 use Rattle.scalars.specs.declared.scalar.Scalar.TheVariants.{I1}
 use Rattle.meaning.specs.Found.{Found, plain, token}
 use Rattle.meaning.specs.Parts.{each, bracketed}
-use Rattle.meaning.specs.Ordinary.{pointer, Form, by_forms, forms, unmarked}
+use Rattle.meaning.specs.Ordinary.{Form, by_forms, forms, unmarked}
+use Rattle.meaning.specs.declared.Kind.{Kind}
 use Rattle.meaning.specs.declared.Kind.TheVariants as K
 use Rattle.meaning.specs.declared.Reading.{Reading}
 use Rattle.port.specs.Carried.{carried, answered, Told}
@@ -25,12 +26,8 @@ use Rattle.lexis.proofs.Seeking.{turned}
 -- ── a name ──
 
 module _ (b : Bool) {x : Reading} {o : Option Scalar} (s : Text) (g : scalar_name s ≡ o) where
-  pub bare_named : x ≡ answered b (each (carried 8) (each (plain K.Scalar) o)) → x ≡ answered b (each (carried 8) (each (plain K.Scalar) (scalar_name s)))
-  bare_named e = e ∙ ap (λ (o : Option Scalar). answered b (each (carried 8) (each (plain K.Scalar) o))) (sym g)
-
-  pub pointer_named : x ≡ answered b (each (carried 8) (each (plain K.Pointer) o)) → x ≡ answered b (each (carried 8) (pointer s))
-  unfolding pointer
-  pointer_named e = e ∙ ap (λ (o : Option Scalar). answered b (each (carried 8) (each (plain K.Pointer) o))) (sym g)
+  pub told : (k : Kind) → x ≡ answered b (each (carried 8) (each (plain k) o)) → x ≡ answered b (each (carried 8) (each (plain k) (scalar_name s)))
+  told k e = e ∙ ap (λ (o : Option Scalar). answered b (each (carried 8) (each (plain k) o))) (sym g)
 
 -- ── the forms in order ──
 

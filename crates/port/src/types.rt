@@ -1,8 +1,10 @@
 // `Type::parse` (01, module 7).
 ghost use Rattle.std.specs.Prelude.{if◌then◌else◌, suc, ◌≤◌, ◌≡◌, true, leb, take, drop, length};
+ghost use Rattle.scalars.specs.Names.{scalar_name};
+ghost use Rattle.meaning.specs.Found.{plain};
 ghost use Rattle.meaning.specs.Parts.{each};
 ghost use Rattle.meaning.specs.Ordinary as O;
-ghost use Rattle.meaning.specs.Ordinary.{pointer, unmarked, judged, refused};
+ghost use Rattle.meaning.specs.Ordinary.{unmarked, judged, refused};
 ghost use Rattle.meaning.specs.declared.Refusal.TheVariants.{TooLong};
 ghost use Rattle.port.specs.Carried.{carried, answered};
 ghost use Rattle.port.specs.Forms.{shorthand, unprefixed, bare, first_of};
@@ -17,21 +19,12 @@ use super::views::{parse_gather_scatter_view, parse_partition_view, parse_stride
 use meaning::{Kind, Reading, Refusal, refuse};
 use scalars::Scalar;
 
-fn parse_ptr(inner: &[u8], marked: bool) -> Reading
-    ensures { result ≡ answered marked (each (carried 8) (pointer inner.now)) }
-{
-    match scalars::parse_scalar(inner) {
-        Some(e) => listless(Kind::Pointer, e, marked),
-        None => refuse(Refusal::NoType, 0),
-    }
-}
-
-// Bare scalar name.
-fn parse_bare(s: &[u8], marked: bool) -> Reading
-    ensures { result ≡ answered marked (each (carried 8) (bare s.now)) }
+// A type that is told by a scalar's name alone: a pointer by its content, a scalar by the whole text.
+fn parse_name(kind: Kind, s: &[u8], marked: bool) -> Reading
+    ensures { result ≡ answered marked (each (carried 8) (each (plain kind) (scalar_name s.now))) }
 {
     match scalars::parse_scalar(s) {
-        Some(e) => listless(Kind::Scalar, e, marked),
+        Some(e) => listless(kind, e, marked),
         None => refuse(Refusal::NoType, 0),
     }
 }
@@ -52,9 +45,9 @@ fn parse_last(s: &[u8], t: &[u8], marked: bool) -> Reading
     ensures { result ≡ answered marked (each (carried 8) (first_of (drop 5 shorthand) t.now (bare s.now))) }
 {
     if let Some(q) = strip_prefix_suffix(t, b"ptr<") {
-        return parse_ptr(q.inner, marked);
+        return parse_name(Kind::Pointer, q.inner, marked);
     }
-    parse_bare(s, marked)
+    parse_name(Kind::Scalar, s, marked)
 }
 
 // The views, then the last form.

@@ -4,9 +4,7 @@ ghost use Rattle.grammar.specs.Number.{grow, magnitude};
 ghost use Rattle.strict.specs.Cursor.{Told, numeral, dimension, Spaced};
 
 use super::cursor::{Read, Stuck};
-
-// A dimension or stride whose size is not statically known.
-const DYNAMIC: i64 = i64::MIN;
+use meaning::DYNAMIC;
 
 // Digits from `at` on, as long as the value is at most `most`; a digit is held to that only where it may pass it.
 fn grow(s: &[u8], at: usize, v: u64, most: u64) -> Read<u64>

@@ -2,9 +2,10 @@
 ghost use Rattle.std.specs.Prelude.{Some};
 ghost use Rattle.terminal.specs.Entries.{entry_text, entries_text};
 
+use meaning::DYNAMIC;
 use std::fmt::{self, Display, Formatter};
 
-// A list's entry as text: DYNAMIC, the smallest number, is `?`.
+// A list's entry as text: DYNAMIC is `?`.
 #[derive(Clone, Copy)]
 pub struct Entry(pub i64);
 
@@ -13,7 +14,7 @@ impl Display for Entry {
 
     fn fmt<W: fmt::Write>(&self, f: &mut Formatter<W>) -> fmt::Result {
         let Entry(z) = *self;
-        if z == i64::MIN {
+        if z == DYNAMIC {
             return write!(f, "?");
         }
         write!(f, "{z}")

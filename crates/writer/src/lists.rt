@@ -4,9 +4,7 @@ ghost use Rattle.meaning.specs.Decimal.{decimal};
 ghost use Rattle.writer.specs.Flat.{entry, parted, clause};
 
 use super::put::{Draft, LONGEST};
-
-// The number of an entry that isn't known, written `?`.
-const DYNAMIC: i64 = i64::MIN;
+use meaning::DYNAMIC;
 
 // An entry of a list, and its text.
 pub(crate) trait Entry: Copy {
