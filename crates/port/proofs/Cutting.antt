@@ -8,15 +8,15 @@ use mathlib.Core.List.{List, [], ◌∷◌}
 use Rattle.std.specs.Prelude.{Option, None, Some, ℤ}
 use mathlib.Core.Path.{◌≡◌, refl, sym, ap, subst, ◌∙◌}
 use lib.Dec.{eqb}
-use lib.ListN.{length, take, drop, replicate}
+use lib.ListN.{length, take, drop}
 use Rattle.lexis.specs.Text.{Text, bytes, less_leading, less_trailing, split, Cut, nowhere, at, cut, place}
 use Rattle.scalars.specs.Names.{scalar_name}
 use Rattle.scalars.specs.declared.scalar.Scalar.{Scalar}
 use Rattle.lexis.proofs.Lists.{rest}
 use Rattle.lexis.proofs.Seeking.{cut_at, cut_within, cut_nowhere}
-use Rattle.meaning.specs.Found.{Entry, filled}
+use Rattle.meaning.specs.Found.{Entry}
 use Rattle.meaning.specs.Parts.{each, last, front}
-use Rattle.meaning.specs.Tile.{DYNAMIC, dimension, dimensions, stride_parts, strides_of, tensor_of, tensor_parts, tensor_by, tensor, tensor_found, tensor_view}
+use Rattle.meaning.specs.Tile.{dimension, dimensions, stride_parts, strides_of, tensor_of, tensor_parts, tensor_by, tensor, tensor_found, tensor_view}
 use Rattle.meaning.specs.Tile as T
 use Rattle.meaning.specs.declared.Kind.TheVariants as K
 use Rattle.lists.specs.declared.list.Front.{Front}
@@ -54,9 +54,9 @@ module _ (s : Text) {f : Front} (g : Fronted 8 s f) where
   pub named : {n m : Option Scalar} → n ≡ scalar_name (take (length s - f.last) (drop f.last s)) → n ≡ m → scalar_name (behind s) ≡ m
   named e q = sym (e ∙ ap scalar_name (rest s f.last ∙ g.part)) ∙ q
 
-  -- one DYNAMIC for each
-  pub none_read : {l : Laid} → l ≡ laid 8 (filled (replicate f.dims.row.len DYNAMIC)) → l ≡ laid 8 (strides_of (length (sizes s)) None)
-  none_read e = e ∙ ap (λ (n : ℕ). laid 8 (filled (replicate n DYNAMIC))) (ap (λ (m : Laid). m.row.len) g.dims ∙ as_many (sizes s))
+  -- the dimensions that were laid are the rank
+  pub ranked : (strides : Option Text) {l : Laid} → l ≡ laid 8 (strides_of f.dims.row.len strides) → l ≡ laid 8 (strides_of (length (sizes s)) strides)
+  ranked strides e = e ∙ ap (λ (n : ℕ). laid 8 (strides_of n strides)) (ap (λ (m : Laid). m.row.len) g.dims ∙ as_many (sizes s))
     where
       as_many : (ps : List Text) → length (L.map (λ (e : Entry). e.value) (L.map dimension ps)) ≡ length ps
       as_many [] = refl

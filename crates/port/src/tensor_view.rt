@@ -1,7 +1,7 @@
 // Tensor views (01, module 5).
-ghost use Rattle.std.specs.Prelude.{◌+◌, ◌≤◌, ◌≡◌, length, take, drop, Option, None, Some};
+ghost use Rattle.std.specs.Prelude.{◌+◌, ◌≤◌, ◌≡◌, length, take, drop, Option, Some, option_map};
 ghost use Rattle.meaning.specs.Parts.{each};
-ghost use Rattle.meaning.specs.Tile.{dimensions, stride_parts, tensor_parts, tensor, tensor_view};
+ghost use Rattle.meaning.specs.Tile.{dimensions, stride_parts, strides_of, tensor_parts, tensor, tensor_view};
 ghost use Rattle.lists.specs.Laid.{laid, list};
 ghost use Rattle.port.specs.Keys.{Placed};
 ghost use Rattle.port.specs.Carried.{carried, answered, TensorIs};
@@ -33,7 +33,7 @@ pub(crate) fn parse_tensor(inner: &[u8], k: Places) -> Option<Tensor>
     if j < inner.len() {
         return around(inner, j, 9);
     }
-    without_strides(inner)
+    tensor_parts(inner, None)
 }
 
 // The strides' clause opens with the `n` bytes at `i`.
@@ -41,32 +41,30 @@ fn around(inner: &[u8], i: usize, n: usize) -> Option<Tensor>
     requires { i + n ≤ length inner.now }
     ensures { TensorIs result (tensor_parts (take i inner.now) (Some (drop (i + n) inner.now))) }
 {
-    with_strides(&inner[..i], &inner[i + n..])
+    tensor_parts(&inner[..i], Some(&inner[i + n..]))
 }
 
-fn with_strides(s: &[u8], strides: &[u8]) -> Option<Tensor>
-    ensures { TensorIs result (tensor_parts s.now (Some strides.now)) }
+// Shape and scalar, and the strides' text if there is one.
+fn tensor_parts(s: &[u8], strides: Option<&[u8]>) -> Option<Tensor>
+    ensures { TensorIs result (tensor_parts s.now (option_map (λ t. t.now) strides.entry)) }
 {
     let f = lists::parse_front(s);
     let element = scalars::parse_scalar(&s[f.last..])?;
     Some(Tensor {
         element,
         shape: f.dims,
-        strides: parse_strides(strides),
+        strides: strides_of(f.dims.row.len, strides),
     })
 }
 
 // Without the clause, one DYNAMIC per dimension.
-fn without_strides(s: &[u8]) -> Option<Tensor>
-    ensures { TensorIs result (tensor_parts s.now None) }
+fn strides_of(rank: usize, strides: Option<&[u8]>) -> Dims
+    ensures { list result ≡ laid 8 (strides_of rank (option_map (λ t. t.now) strides.entry)) }
 {
-    let f = lists::parse_front(s);
-    let element = scalars::parse_scalar(&s[f.last..])?;
-    Some(Tensor {
-        element,
-        shape: f.dims,
-        strides: lists::dynamic(f.dims.row.len),
-    })
+    match strides {
+        Some(s) => parse_strides(s),
+        None => lists::dynamic(rank),
+    }
 }
 
 // All leading `[` and trailing `]` go; split at commas.

@@ -5,8 +5,8 @@ use lib.Seq.{length-take-le}
 use Rattle.port.proofs.Cutting as L
 use Rattle.port.proofs.tensor_view.around.Goals as goal
 
-pub slice_bounds-with_strides-end : goal.slice_bounds-with_strides-end
-slice_bounds-with_strides-end c = sym (length-take-le _ _ (search rules))
+pub slice_bounds-tensor_parts-end : goal.slice_bounds-tensor_parts-end
+slice_bounds-tensor_parts-end c = sym (length-take-le _ _ (search rules))
 
 pub returns : goal.returns
-returns c = L.strides_rest _ c.args.inner.now _ c.with_strides.ensures
+returns c = L.strides_rest _ c.args.inner.now _ c.tensor_parts.ensures

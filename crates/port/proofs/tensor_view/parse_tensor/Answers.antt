@@ -20,4 +20,4 @@ returns-then-j-inner c = let s = c.args.inner.now in
 
 pub returns : goal.returns
 returns c = let s = c.args.inner.now in
-    L.strides_nowhere s (P.unplaced c.requires.spaced (search rules)) (P.unplaced c.requires.bare (search rules)) c.without_strides.ensures
+    L.strides_nowhere s (P.unplaced c.requires.spaced (search rules)) (P.unplaced c.requires.bare (search rules)) c.tensor_parts.ensures
