@@ -5,15 +5,14 @@ use mathlib.Core.Path.{◌≡◌, refl, sym, ap, subst, ◌∙◌}
 use mathlib.Core.Bool.{true}
 use mathlib.Core.List as L
 use mathlib.Core.List.{List, [], ◌∷◌, ◌++◌, append_assoc, map-append}
-use Prim.Native.Nat.{ℕ, suc, ◌+◌, ◌-◌, ◌≤◌, ◌<◌}
+use Prim.Native.Nat.{ℕ, suc, ◌+◌, ◌≤◌, ◌<◌}
 use native.Mathlib.Numerals.{add-one}
 use native.Mathlib.Omega.{arith}
 use lib.Dec.{eqb}
 use lib.IntN.{ℤ}
 use lib.ListN.{length, take, drop, set, length-drop, length-append}
-use lib.Seq.{take_all, drop-drop, set_out}
+use lib.Seq.{take_all, set_out}
 use Rattle.lexis.specs.Text.{Text, until, split}
-use Rattle.lexis.proofs.Lists.{rest}
 use Rattle.lexis.proofs.Seeking.{until_take}
 use Rattle.lexis.proofs.Splitting.{split_more, split_last}
 use Rattle.meaning.specs.Parts.{last, front}
@@ -120,21 +119,8 @@ module _ (w x : ℕ) (said : Text → Entry) where
     pub part_last : t ≡ last (split x s)
     part_last = sym (ap last alone ∙ last_of g.passed t)
 
-  -- the same by a place in s, with the next part from there on
-  module _ (s : Text) (at : ℕ) {l : Laid} {k : ℕ} (g : Kept s (drop at s) l) (u : k ≡ length (until (eqb x) (take (length s - at) (drop at s)))) where
-    from_there : k ≡ length (until (eqb x) (drop at s))
-    from_there = rw rest at u
-
-    pub step_at : {l' : Laid} {e : Entry} → e ≡ said (take (at + k - at) (drop at s)) → l' ≡ push l e → k < length s - at → Kept s (drop (at + k + 1) s) l'
-    step_at p q h =
-        let n : at + k - at ≡ k = omega arith in
-        let m : at + (k + 1) ≡ at + k + 1 = omega arith in
-        step g from_there (p ∙ ap (λ (j : ℕ). said (take j (drop at s))) n) q
-        (sym (drop-drop (k + 1) at s ∙ ap (λ (j : ℕ). drop j s) m))
-        (rw length-drop h)
-
-    pub last_at : length s - at ≤ k → length (drop at s) ≤ length (until (eqb x) (drop at s))
-    last_at h = rw (← from_there, length-drop) h
+  pub last_is : (t : Text) {k : ℕ} → k ≡ length (until (eqb x) t) → length t ≤ k → length t ≤ length (until (eqb x) t)
+  last_is t u h = rw u at h
 
 -- past the end storing changes nothing
 pub unset : (l : List ℤ) (i : ℕ) (a : ℤ) → length l ≤ i → set l i a ≡ l

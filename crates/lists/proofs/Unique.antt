@@ -1,9 +1,8 @@
 -- Each public function's contract leaves one answer: two answers that meet the generated reading of it, for the same arguments, are the same.
--- What is said of an entry or of a list tells it whole; a place in a text is told by what stands there and that it is inside.
+-- What is said of an entry or of a list tells it whole; a slice is compared by what it holds.
 use mathlib.Core.Path.{◌≡◌, sym, ap, ◌∙◌}
-use Prim.Native.Nat.{ℕ, ◌-◌}
+use Prim.Native.Nat.{ℕ}
 use native.Mathlib.Omega.{arith}
-use lib.ListN.{length, length-drop}
 use Rattle.lexis.specs.Text.{Text}
 use denote.RattleType.{RattleType}
 use denote.Param.Laws.{Laws, IsCopy}
@@ -71,17 +70,20 @@ parse_smalls_one κs a x y s t p q = list_one (p ∙ sym q)
 pub parse_one_one : One parse_one.Post
 parse_one_one κs a x y s t p q = list_one (p ∙ sym q)
 
--- ── dimensions with a place ──
+-- ── dimensions, and what follows them ──
 
-fronted_one : (w : ℕ) (s : Text) {x y : Front} → Fronted w s x → Fronted w s y → x ≡ y
-fronted_one w s {x} {y} p q =
-    let l = list_one (p.dims ∙ sym q.dims) in
-    let d : length s - x.last ≡ length s - y.last = sym (length-drop x.last s) ∙ ap length (p.part ∙ sym q.part) ∙ length-drop y.last s in
-    let k : x.last ≡ y.last = omega (arith, p.inside, q.inside) in
-    λ i. record { dims = l i; last = k i }
+module _ {w : ℕ} {s : Text} {x y : Front} (p : Fronted w s x) (q : Fronted w s y) where
+  dims_one : x.dims ≡ y.dims
+  dims_one = list_one (p.dims ∙ sym q.dims)
 
-pub parse_front_one : One parse-front.Post
-parse_front_one κs a x y s t p q = fronted_one 8 _ p q
+  rest_one : x.rest.now ≡ y.rest.now
+  rest_one = p.part ∙ sym q.part
+
+pub parse_front_dims_one : Alike (λ κs x. x.dims) parse-front.Post
+parse_front_dims_one κs a x y s t p q = dims_one p q
+
+pub parse_front_rest_one : Alike (λ κs x. x.rest.now) parse-front.Post
+parse_front_rest_one κs a x y s t p q = rest_one p q
 
 -- ── for every array of entries ──
 

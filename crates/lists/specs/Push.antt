@@ -1,5 +1,5 @@
 -- For private contracts: an entry by its numeral, a list with one entry more, a row that was filled in.
-use Rattle.std.specs.Prelude.{ℕ, ◌+◌, ◌≤◌, false, ◌≡◌, ℤ, set, length, drop}
+use Rattle.std.specs.Prelude.{ℕ, ◌+◌, false, ◌≡◌, ℤ, set}
 use Rattle.lexis.specs.Text.{Text, split}
 use Rattle.meaning.specs.Found.{Came, read, fell, Entry}
 use Rattle.meaning.specs.Parts.{last, front}
@@ -35,5 +35,4 @@ filled_row n = record { len = n; stood = false; tally = record { fell = 0 } }
 -- as `Fronted`, for any byte x
 pub record Ahead (x : ℕ) (s : Text) (r : Front) : Type 0 where
   pub dims : list r.dims ≡ laid 8 (dimensions (front (split x s)))
-  pub part : drop r.last s ≡ last (split x s)
-  pub inside : r.last ≤ length s
+  pub part : r.rest.now ≡ last (split x s)

@@ -59,28 +59,28 @@ impl<A: Entries> Listing<A> {
     }
 }
 
-// Dimensions, and where what follows the last of them begins.
+// Dimensions, and what follows the last of them.
 #[derive(Clone, Copy)]
-pub struct Front {
+pub struct Front<'a> {
     pub dims: Dims,
-    pub last: usize,
+    pub rest: &'a [u8],
 }
 
-// The dimensions before the last byte `x` of `s`, and where the part after it begins.
-fn before_last(s: &[u8], x: u8) -> Front
+// The dimensions before the last byte `x` of `s`, and the part after it.
+fn before_last(s: &[u8], x: u8) -> Front<'_>
     ensures { Ahead x s.now result }
 {
-    let mut at = 0;
-    let mut l = Dims::none();
+    let mut rest = s;
+    let mut dims = Dims::none();
     loop {
-        let p = numerals::parse_part(&s[at..], x);
+        let p = numerals::parse_part(rest, x);
         let k = p.len;
-        if s.len() - at <= k {
-            return Front { dims: l, last: at };
+        if rest.len() <= k {
+            return Front { dims, rest };
         }
         let v = p.value;
-        l.push(dim_of(&s[at..at + k], v));
-        at = at + k + 1;
+        dims.push(dim_of(&rest[..k], v));
+        rest = &rest[k + 1..];
     }
 }
 
@@ -103,8 +103,8 @@ pub fn parse_dims(s: &[u8], x: u8) -> Dims
     }
 }
 
-// The dimensions before the last `x` of `s`, and where the part after it begins.
-pub fn parse_front(s: &[u8]) -> Front
+// The dimensions before the last `x` of `s`, and the part after it.
+pub fn parse_front(s: &[u8]) -> Front<'_>
     ensures { Fronted 8 s.now result }
 {
     before_last(s, b'x')

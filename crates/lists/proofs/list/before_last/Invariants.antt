@@ -1,13 +1,12 @@
--- The list is laid from the parts before the place (`Kept`), with the rest of the text from there on.
-use Prim.Native.Nat.{◌-◌, ◌≤◌}
-use lib.ListN.{length, drop}
+-- Each part in turn but the last, which is left.
+use lib.ListN.{length}
 use Rattle.meaning.specs.Tile.{dimension}
 use Rattle.lists.specs.Laid.{list}
 use Rattle.lists.proofs.Laying as L
 use Rattle.lists.proofs.list.before_last.Given as goal
 
-abbrev pub invariant-loop-at : goal.invariant-loop-at
-invariant-loop-at l = (l.at ≤ length l.s) × L.Kept 8 l.x dimension l.s (drop l.at l.s) (list l.l)
+abbrev pub invariant-loop-rest : goal.invariant-loop-rest
+invariant-loop-rest l = L.Kept 8 l.x dimension l.s l.rest (list l.dims)
 
-abbrev pub decreases-loop-at : goal.decreases-loop-at
-decreases-loop-at l = length l.s - l.at
+abbrev pub decreases-loop-rest : goal.decreases-loop-rest
+decreases-loop-rest l = length l.rest
