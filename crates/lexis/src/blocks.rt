@@ -33,6 +33,7 @@ fn first<P: Pattern>(text: &[u8], p: P) -> usize
 }
 
 // The place of the first byte from `from` on that matches: the text's length, where there is none; `from`, where the text ends before it.
+// kept: callers cut at this place, and where no byte matches the whole text is the cut, so that no `Option` is plainer
 pub fn seek<P: Pattern>(text: &[u8], from: usize, p: P) -> usize
     ensures { result ≡ from + length (until (P.matches p) (drop from text.now)) }
 {

@@ -66,6 +66,7 @@ pub fn contains(text: &[u8], what: &[u8], k: usize) -> bool
 }
 
 // How many bytes stand before the first that matches: all, where none does.
+// kept: `until` of specs/Text.antt is the whole text, where no byte matches, and callers cut there; so no `Option`
 pub fn until<P: Pattern>(text: &[u8], p: P) -> usize
     ensures { result ≡ length (until (P.matches p) text.now) }
 {

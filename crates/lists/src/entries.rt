@@ -19,6 +19,7 @@ pub trait Entries: Copy {
         ensures { values self.new ≡ set (values self.old) n (Self.Entry.is v) };
 }
 
+// kept: the same twice, as one impl for `[T; CAP]` says its values by a `map`, which the proof of each caller would take away again
 impl Entries for [i64; CAP] {
     type Entry = i64;
 

@@ -53,6 +53,7 @@ pub struct TypetextReading {
     pub refusal: u8,
 }
 
+// kept: three casts, as each meets a definition of its own (specs/Numbers.antt)
 fn kind_number(k: Kind) -> u8
     ensures { result ≡ kind_number k }
 {

@@ -16,6 +16,7 @@ pub struct Part<T> {
 }
 
 // How many white bytes stand in front: mostly none or one.
+// kept: callers cut at this place, also where all is white
 fn leading(text: &[u8]) -> usize
     ensures { result ≡ length (until ink text.now) }
 {

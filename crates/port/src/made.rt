@@ -10,6 +10,7 @@ use meaning::{CAP, Kind, Note, Padding, Reading, Record, Refusal, refuse};
 use scalars::Scalar;
 
 // No list has over eight entries.
+// kept: `strict` looks at lists of its own, and neither crate uses the other
 fn within(shape: Row, strides: Row, tile: Row, map: Row, traversal: Row) -> bool
     ensures { result ≡ leb shape.len 8 && leb strides.len 8 && leb tile.len 8 && leb map.len 8 && leb traversal.len 8 }
 {

@@ -6,6 +6,7 @@ ghost use Rattle.meaning.specs.Ordinary.{mark};
 ghost use Rattle.port.specs.Passes.{Rewritten};
 
 // The place of the first mark. A mark has a `#`, and its one `>` at its end: by these two it is sought.
+// kept: the place goes on by `seek`, and is the answer
 pub(crate) fn find_mark(text: &[u8]) -> Option<usize>
     ensures { result ≡ place (cut mark text.now) }
 {

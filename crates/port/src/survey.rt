@@ -29,6 +29,7 @@ fn deepened(d: usize, b: u8) -> usize
 }
 
 // Scans `s`, of which a content is the front.
+// kept: the place goes on by `seek`, and each keyword is noted by it
 pub(crate) fn scan(s: &[u8]) -> Scanning
     ensures { Scanned s.now result }
 {

@@ -92,6 +92,7 @@ fn parse_unmarked(s: &[u8], marked: bool) -> Reading
 
 // Reads the text that stands in the first `n` bytes of `a`, once no mark is left in it: while one does, the rewritten text stands in the
 // other room, and is read so in turn. No room is in its frame: 37 passes, the most that 1,024 bytes allow, take some 20 KB of stack.
+// kept: a room and a number, as a slice would lend the room that the next pass writes
 fn read_on(a: &mut [u8], n: usize, b: &mut [u8]) -> Reading
     requires { (n ≤ length a.old) × (n ≤ length b.old) }
     ensures { result ≡ answered true (each (carried 8) (reads_on (suc n) (take n a.old))) }

@@ -19,6 +19,7 @@ use lists::Smalls;
 use meaning::{Kind, Padding, Reading, Refusal, refuse};
 
 // The tile shape, and where what follows its `)` begins.
+// kept: `opens` seeks in the whole content, so that what follows is a place in it and no slice
 #[derive(Clone, Copy)]
 pub struct TileShape {
     pub tile: Smalls,
@@ -34,6 +35,7 @@ pub struct View {
 }
 
 // A list that runs to the next `]`.
+// kept: absent, never closed, and a list: an `Option` in an `Option` would name none of the three
 #[derive(Clone, Copy)]
 pub enum Listed<'a> {
     Absent,
