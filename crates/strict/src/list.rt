@@ -137,6 +137,7 @@ impl Items<i64> for Shape {
 fn put<E: Copy>(out: &mut [E], n: usize, v: E)
     ensures { out.new ≡ set out.old n v }
 {
+    // kept: `if let Some(e) = out.get_mut(n)` was tried, and its proof didn't close
     if n < out.len() {
         out[n] = v;
     }

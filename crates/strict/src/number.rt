@@ -16,8 +16,7 @@ fn grow(s: &[u8], at: usize, v: u64, most: u64) -> Read<u64>
     ensures below { result.value ≤ most }
 {
     let mut n = v;
-    let mut i = at;
-    while i < s.len() {
+    for i in at..s.len() {
         let b = s[i];
         if b < b'0' {
             return Read { value: n, end: i };
@@ -35,9 +34,11 @@ fn grow(s: &[u8], at: usize, v: u64, most: u64) -> Read<u64>
             }
         }
         n = n * 10 + d;
-        i += 1;
     }
-    Read { value: n, end: i }
+    Read {
+        value: n,
+        end: s.len(),
+    }
 }
 
 // A number from 1 to `most`.

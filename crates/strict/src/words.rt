@@ -10,10 +10,7 @@ use super::cursor::{Read, Stuck};
 pub(crate) fn peek(s: &[u8], at: usize) -> u8
     ensures { result ≡ get_or s.now at 0 }
 {
-    if at < s.len() {
-        return s[at];
-    }
-    0
+    s.get(at).copied().unwrap_or(0)
 }
 
 // The word `w`, which says `value`.
