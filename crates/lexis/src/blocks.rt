@@ -7,6 +7,7 @@ use super::pattern::Pattern;
 const BLOCK: usize = 16;
 
 // Whether one of the bytes matches.
+// kept: `any` ends early, and a machine then looks at one byte in a step, and not at sixteen
 fn among<P: Pattern>(block: &[u8], p: P) -> bool
     ensures { result ≡ some_of (P.matches p) block.now }
 {
@@ -36,6 +37,7 @@ pub fn seek<P: Pattern>(text: &[u8], from: usize, p: P) -> usize
     ensures { result ≡ from + length (until (P.matches p) (drop from text.now)) }
 {
     let mut i = from;
+    // kept: no iterator is plainer, as the last block overlaps the one before it and the answer is a place
     while i < text.len() {
         if text.len() - i < BLOCK {
             if BLOCK <= text.len() {

@@ -27,6 +27,7 @@ fn find_from(text: &[u8], what: &[u8], k: usize) -> Option<usize>
 {
     let b = what[k];
     let mut i = seek(text, k, b);
+    // kept: no count by one, but from each place of `b` to the next; an iterator over these is no plainer
     while i < text.len() {
         if begins(&text[i - k..], what) {
             return Some(i - k);

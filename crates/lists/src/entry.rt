@@ -10,6 +10,7 @@ ghost use Rattle.lists.specs.Laid.{said};
 pub const DYNAMIC: i64 = i64::MIN;
 
 // What an entry says: what was read, or the default that it fell back on.
+// kept: no `Result` is plainer, as an entry that fell back is no error and holds a value of the same type
 #[derive(Clone, Copy)]
 pub enum Entry<T> {
     Read(T),

@@ -16,6 +16,7 @@ fn filled<A: Entries>(n: usize, v: A::Entry) -> Listing<A>
     ensures { listed A.values result ≡ laid 8 (filled (replicate n (A.Entry.is v))) }
 {
     let mut values = A::none();
+    // kept: by places, as `Entries` has no other way to its entries
     for i in 0..n.min(CAP) {
         values.put(i, v);
     }
@@ -44,6 +45,7 @@ pub fn count_up(n: usize) -> Smalls
     ensures { list result ≡ laid 8 (filled (count_up 0 n)) }
 {
     let mut values = [0; CAP];
+    // kept: an entry is its own place; past a loop over `iter_mut` no entry is known to a proof
     for i in 0..n.min(CAP) {
         values[i] = i as i32;
     }

@@ -13,6 +13,7 @@ use super::row::{Row, no_entry, tick};
 use meaning::CAP;
 
 // A list: the first of its entries in an array, and what is told of all.
+// kept: no heap is used, so that a list is no `Vec`; entries past the capacity are only counted
 #[derive(Clone, Copy)]
 pub struct Listing<A> {
     pub values: A,
@@ -84,6 +85,7 @@ fn before_last(s: &[u8], x: u8) -> Front
 }
 
 // The dimensions between the bytes `x` of `s`.
+// kept: `split` would walk each part once more, as its numeral is read in the walk that finds its end
 pub fn parse_dims(s: &[u8], x: u8) -> Dims
     ensures { list result ≡ laid 8 (dimensions (split x s.now)) }
 {
@@ -109,6 +111,7 @@ pub fn parse_front(s: &[u8]) -> Front
 }
 
 // The 32-bit entries between the bytes `x` of `s`; an unreadable one falls back on `default`.
+// kept: the loop of `parse_dims`, but one with a function for the entry needs a law of it beside, and is no plainer
 pub fn parse_smalls(s: &[u8], x: u8, default: i32) -> Smalls
     ensures { list result ≡ laid 8 (smalls default (split x s.now)) }
 {

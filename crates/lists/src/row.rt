@@ -11,6 +11,7 @@ pub struct Tally {
 }
 
 // How many entries there are, whether their clause stands or was filled in, and the tally.
+// kept: `row` of specs/Laid.antt says `stood` beside the length and the tally; both clauses have all three, so that an enum is no plainer
 #[derive(Clone, Copy)]
 pub struct Row {
     pub len: usize,

@@ -28,6 +28,7 @@ pub enum Kind {
 }
 
 // A view's padding, or none.
+// kept: it crosses to C as one number, 0 for none (docs/ABI.md), and `plain` of specs/Found.antt names `Absent`; so no `Option`
 #[derive(Clone, Copy, PartialEq, Eq)]
 pub enum Padding {
     Absent,
@@ -39,6 +40,7 @@ pub enum Padding {
 }
 
 // A type, flat: five lists, each an array and a length. The fields stand as they cross to C (`numbers`), so that nothing is moved there.
+// kept: C gets these fields (`typetext_record`), and no heap is used, so that a list is no `Vec`
 #[derive(Clone, Copy, PartialEq, Eq)]
 pub struct Record {
     pub shape_len: usize,
@@ -60,6 +62,7 @@ pub struct Record {
 }
 
 // Why a call refused, or that it accepted, by 01's numbers.
+// kept: C gets 0 for an accepted call from the same byte, and `number` of specs/Refusals.antt says so
 #[derive(Clone, Copy, PartialEq, Eq)]
 pub enum Refusal {
     Accepted = 0,
@@ -83,7 +86,7 @@ impl Refusal {
 }
 
 // How often an ordinary reading took a default: the counts (a) to (d).
-#[derive(Clone, Copy, PartialEq, Eq)]
+#[derive(Clone, Copy, Default, PartialEq, Eq)]
 pub struct Note {
     pub a: usize,
     pub b: usize,
@@ -92,6 +95,7 @@ pub struct Note {
 }
 
 // What a reader answers.
+// kept: `ordinary` and `refused` of specs/Ordinary.antt promise the blank record and no counts to a refused call too, and C gets all fields
 #[derive(Clone, Copy, PartialEq, Eq)]
 pub struct Reading {
     pub value: Record,
@@ -101,6 +105,7 @@ pub struct Reading {
 }
 
 // What the writer answers.
+// kept: `writing` of specs/Written.antt promises the length 0 to a refused call, and C gets both fields
 #[derive(Clone, Copy, PartialEq, Eq)]
 pub struct Written {
     pub refusal: Refusal,

@@ -97,6 +97,7 @@ fn limit(used: bool) -> usize
     if used { CAP } else { 0 }
 }
 
+// kept: `is_i1` and `is_absent` of specs/Normal.antt are such tables; `==` is no shorter, and wants a lemma for each
 fn is_i1(e: Scalar) -> bool
     ensures { result ≡ is_i1 e }
 {
@@ -127,6 +128,7 @@ fn used_by(k: Kind) -> Uses
     }
 }
 
+// kept: a kind is one line above, as in `uses` of specs/Normal.antt, and not nine named fields
 fn row(
     element: bool,
     pointer: bool,

@@ -18,12 +18,7 @@ pub fn first_high(text: &[u8]) -> Option<usize>
 pub fn no_note() -> Note
     ensures { result ≡ unnoted }
 {
-    Note {
-        a: 0,
-        b: 0,
-        c: 0,
-        d: 0,
-    }
+    Note::default()
 }
 
 // The blank record, and nothing noted.

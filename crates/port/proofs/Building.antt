@@ -1,10 +1,10 @@
 -- What is built of lists that are laid from clauses is what is carried of the type with these clauses, for each maker; and what was found,
 -- where the code says that something was.
-use Rattle.std.specs.Prelude.{if◌then◌else◌, Option, None, Some}
+use Rattle.std.specs.Prelude.{Option, None, Some}
 use Prim.Native.Nat.{ℕ}
 use native.Mathlib.Omega.{arith}
-use mathlib.Core.Bool.{Bool, true, false}
-use mathlib.Core.Path.{◌≡◌, refl, sym, ap, ◌∙◌}
+use mathlib.Core.Bool.{Bool, false}
+use mathlib.Core.Path.{◌≡◌, refl, ◌∙◌}
 use Rattle.scalars.specs.declared.scalar.Scalar.{Scalar}
 use Rattle.meaning.specs.Found.{Clause, stands, unused, made, plain}
 use Rattle.meaning.specs.Parts.{each}

@@ -20,8 +20,9 @@ use Rattle.meaning.specs.declared.Padding.TheVariants.{Absent, Zero, NegZero, Na
 use Rattle.lists.specs.Laid.{Laid, laid, smalls}
 use Rattle.port.specs.Carried.{fell, listing, ListIs, list_laid}
 use Rattle.port.proofs.Making.{sound_list}
-use Rattle.port.specs.declared.views.Closed.{Closed}
-use Rattle.port.specs.declared.views.Closed.TheVariants as C
+use Rattle.port.specs.declared.views.Listed.{Listed}
+use Rattle.port.specs.declared.views.Listed.TheVariants as C
+use Rattle.std.proofs.Common.{Bor}
 
 -- ── the padding: the code asks for `neg_zero` first ──
 
@@ -74,21 +75,21 @@ module _ (p s : Text) (i : ℕ) (e : place (cut p s) ≡ Some i) where
 
 module _ (p s : Text) where
   module _ (i : ℕ) (e : place (cut p s) ≡ Some i) where
-    pub list_closed : (n : ℕ) → place (cut (bytes "]") (take (length s - (i + length p)) (drop (i + length p) s))) ≡ Some n
-        → ListIs s (C.Between (i + length p) (i + length p + n)) (W.list_after p s)
-    list_closed n f =
-        let k : i + length p + n - (i + length p) ≡ n = omega arith in
-        record {
-          is = rw k (sym (ap W.list_by (cut_at p s i e) ∙ ap W.closed (next p s i e (bytes "]") n f)));
-          inside = (omega arith, omega (arith, next_within p s i e (bytes "]") n f));
-        }
+    pub list_closed : {t : Bor Text} (n : ℕ) → place (cut (bytes "]") (take (length s - (i + length p)) (drop (i + length p) s))) ≡ Some n
+        → t.now ≡ take n (take (length s - (i + length p)) (drop (i + length p) s)) → ListIs (C.Between t) (W.list_after p s)
+    list_closed n f g = record {
+      is = ap W.listed (g ∙ ap (take n) (rest s (i + length p))) ∙ sym (ap W.list_by (cut_at p s i e) ∙ ap W.closed (next p s i e (bytes "]") n f));
+    }
 
-    pub list_unclosed : place (cut (bytes "]") (take (length s - (i + length p)) (drop (i + length p) s))) ≡ None
-        → ListIs s C.Unclosed (W.list_after p s)
-    list_unclosed f = record { is = sym (ap W.list_by (cut_at p s i e) ∙ ap W.closed (no_next p s i e (bytes "]") f)); inside = tt }
+    pub closed_fits : (n : ℕ) → place (cut (bytes "]") (take (length s - (i + length p)) (drop (i + length p) s))) ≡ Some n
+        → n ≡ length (take n (take (length s - (i + length p)) (drop (i + length p) s)))
+    closed_fits n f = sym (length-take-le n (take (length s - (i + length p)) (drop (i + length p) s)) (let w = cut_within (bytes "]") (take (length s - (i + length p)) (drop (i + length p) s)) n f in omega arith))
 
-  pub list_absent : place (cut p s) ≡ None → ListIs s C.Absent (W.list_after p s)
-  list_absent e = record { is = sym (ap W.list_by (cut_nowhere p s e)); inside = tt }
+    pub list_unclosed : place (cut (bytes "]") (take (length s - (i + length p)) (drop (i + length p) s))) ≡ None → ListIs C.Unclosed (W.list_after p s)
+    list_unclosed f = record { is = sym (ap W.list_by (cut_at p s i e) ∙ ap W.closed (no_next p s i e (bytes "]") f)) }
+
+  pub list_absent : place (cut p s) ≡ None → ListIs C.Absent (W.list_after p s)
+  list_absent e = record { is = sym (ap W.list_by (cut_nowhere p s e)) }
 
 -- ── entries ──
 
@@ -150,11 +151,11 @@ sound_or own W.unclosed h e = subst (λ (m : Laid). fell m ≤ m.row.len) (sym e
 sound_or own (W.listed t) h e = sound_list (W.entries t) e
 
 -- what is said of an answer, of the answer that it was seen to be
-module _ {s : Text} {q r : Closed} {l : W.Listed} (g : ListIs s q l) (e : q ≡ r) where
-  pub told : ListIs s r l
+module _ {q r : Listed} {l : W.Listed} (g : ListIs q l) (e : q ≡ r) where
+  pub told : ListIs r l
   told = rw e at g
 
-  pub laid_as : (own : Laid) → list_laid own (listing s r) ≡ list_laid own l
+  pub laid_as : (own : Laid) → list_laid own (listing r) ≡ list_laid own l
   laid_as own = ap (list_laid own) told.is
 
 pub list_or_laid : (c : Clause) (l : W.Listed) → list_laid (laid 8 c) l ≡ laid 8 (W.list_or c l)

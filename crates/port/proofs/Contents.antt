@@ -1,15 +1,12 @@
 -- The content by the scan: up to the match, or up to a final `>`.
 use Prim.Native.Nat.{ℕ, ◌-◌, ◌≤◌, ◌<◌}
 use native.Mathlib.Omega.{arith}
-use mathlib.Core.Bool.{true, false, false≢true}
+use mathlib.Core.Bool.{true, false}
 use Rattle.std.specs.Prelude.{None, Some}
 use mathlib.Core.Path.{◌≡◌, sym, ap, subst, ◌∙◌}
-use borrow.Author.Tests.{ltb-true}
-use lib.Dec.{ltb}
 use lib.ListN.{length, take, drop, get_or}
 use lib.Seq.{take-length}
 use Rattle.lexis.specs.Text.{Text, begins}
-use Rattle.lexis.proofs.Lists.{rest}
 use Rattle.meaning.specs.Parts.{each, less_final, content, bracketed}
 use Rattle.port.specs.Seen.{told}
 use Rattle.port.specs.Keys.{Placed, Scanned, Contained}
@@ -58,7 +55,7 @@ module _ {s : Text} {r : Scanning} (g : Scanned s r) where
 
 module _ (p s : Text) where
   pub foreign_form : begins p s ≡ false → Told p s None
-  foreign_form e = record { is = bracketed_none p s (sym (foreign p s e)) }
+  foreign_form e = record { is = bracketed_none p s (foreign p s e) }
 
   abbrev behind : Text
   behind = take (length s - length p) (drop (length p) s)

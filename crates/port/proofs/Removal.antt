@@ -1,14 +1,13 @@
 -- Laws of removing a text m, that is not empty, from a text: it is removed at its first place, and then from what follows.
 use Rattle.std.specs.Prelude.{Option, if◌then◌else◌, None, Some}
 use Prim.Native.Nat.{ℕ, zero, suc, ◌+◌, ◌-◌, ◌≤◌, ◌<◌}
-use native.Mathlib.Nat.{add_assoc, add-zero}
-use native.Mathlib.Numerals.{add-one, sub-one}
+use native.Mathlib.Numerals.{sub-one}
 use native.Mathlib.Omega.{arith}
 use mathlib.Core.Bool.{Bool, true, false, false≢true}
-use mathlib.Core.List.{List, [], ◌∷◌, ◌++◌, append_assoc, append-nil}
+use mathlib.Core.List.{List, [], ◌∷◌, ◌++◌, append_assoc}
 use mathlib.Core.Path.{◌≡◌, refl, sym, ap, subst, ◌∙◌}
-use lib.ListN.{length, take, drop, set, get_or, length-set, length-append, length-drop}
-use lib.Seq.{take-suc, take-suc-set, take_all, length-take-le}
+use lib.ListN.{length, take, drop, length-append, length-drop}
+use lib.Seq.{length-take-le}
 use Rattle.lexis.specs.Text.{Text, bytes, begins, after, Cut, nowhere, at, later, cut, found, place, occurs}
 use Rattle.lexis.proofs.Lists.{rest}
 use Rattle.lexis.proofs.Seeking.{after_drop, Reach, reach, cut_at, cut_within, cut_nowhere}
@@ -123,27 +122,6 @@ mark_length = refl
 -- up to the place e: what u is then
 abbrev pub Copied : List ℕ → List ℕ → List ℕ → ℕ → ℕ → Type 0
 Copied s r u a e = (e ≡ a + length s) × (take e u ≡ take a r ++ s)
-
--- i bytes are copied
-pub record Copying (s r u : List ℕ) (a i : ℕ) : Type 0 where
-  pub passed : i ≤ length s
-  pub size : length u ≡ length r
-  pub holds : take (a + i) u ≡ take a r ++ take i s
-
-pub copy_start : (s r : List ℕ) (a : ℕ) → Copying s r r a 0
-copy_start s r a = record { passed = omega arith; size = refl; holds = rw (add-zero a, append-nil (take a r)) }
-
-module _ {s r u : List ℕ} {a i : ℕ} (c : Copying s r u a i) where
-  pub copy_step : i < length s → a + length s ≤ length r → Copying s r (set u (a + i) (get_or s i 0)) a (i + 1)
-  copy_step h k = record {
-    passed = omega arith;
-    size = length-set u (a + i) (get_or s i 0) ∙ c.size;
-    holds = rw (← add_assoc a i 1, add-one (a + i), take-suc-set u (a + i) (get_or s i 0) (omega arith), c.holds, add-one i, take-suc s i 0 h)
-        (append_assoc (take a r) (take i s) (get_or s i 0 ∷ []));
-  }
-
-  pub copy_end : length s ≤ i → Copied s r u a (a + i)
-  copy_end h = (omega arith, c.holds ∙ ap (λ (l : List ℕ). take a r ++ l) (take_all i s h))
 
 -- ── a removal into a room: n bytes of the answer stand in front, and t is left ──
 

@@ -1,8 +1,9 @@
 -- Laws of what the three views share, by what the callees tell: the tile shape, the inner tensor view, the whole view; and of the three views themselves.
-use Rattle.std.specs.Prelude.{if◌then◌else◌, Option, None, Some}
+use Rattle.std.specs.Prelude.{Option, None, Some}
+use Rattle.std.proofs.Common.{Bor}
 use Prim.Native.Nat.{ℕ, ◌+◌, ◌-◌, ◌≤◌, ◌<◌}
 use native.Mathlib.Omega.{arith}
-use mathlib.Core.Bool.{Bool, true, false, false≢true}
+use mathlib.Core.Bool.{false}
 use mathlib.Core.List.{List, []}
 use mathlib.Core.Path.{◌≡◌, refl, sym, ap, subst, ◌∙◌}
 use lib.IntN.{ℤ, pos}
@@ -28,7 +29,7 @@ use Rattle.port.specs.Carried.{Carried, carried, built, fell, Tensored, tensored
 use Rattle.port.specs.declared.tensor_view.Tensor.{Tensor}
 use Rattle.port.specs.declared.views.TileShape.{TileShape}
 use Rattle.port.specs.declared.views.View.{View}
-use Rattle.port.specs.declared.views.Closed.TheVariants as C
+use Rattle.port.specs.declared.views.Listed.TheVariants as C
 use Rattle.port.proofs.Bracketing.{close_at, close_nowhere}
 use Rattle.port.proofs.Building as B
 use Rattle.port.proofs.Clauses.{next, next_within, no_next, entries_are, list_or_laid}
@@ -104,15 +105,15 @@ module _ (s : Text) (i : ℕ) where
   untiled nowhere h = refl
   untiled (at u b) h = absurd h
 
-  fits : {t : TileShape} (c : Cut) → TileIs s i (Some t) c → (i + 6 ≤ t.behind) × (t.behind ≤ length s)
-  fits nowhere h = absurd h
-  fits (at u b) h = (h.past, h.fits)
+  fits : (t : TileShape) (c : Cut) → TileIs s i (Some t) c → (i + 6 ≤ t.behind) × (t.behind ≤ length s)
+  fits t nowhere h = absurd h
+  fits t (at u b) h = (h.past, h.fits)
 
   -- what is read behind the tile, with the padding
-  behind_tile : {t : TileShape} (c : Cut) → TileIs s i (Some t) c → {o : Option Tensor} → TensorIs o (W.inner_by (W.opened s (drop t.behind s)))
+  behind_tile : (t : TileShape) (c : Cut) → TileIs s i (Some t) c → {o : Option Tensor} → TensorIs o (W.inner_by (W.opened s (drop t.behind s)))
       → each (wrap (list t.tile) (W.padding s)) (each tensor_parts o) ≡ each (viewed 8) (W.view_by s c)
-  behind_tile nowhere h g = absurd h
-  behind_tile (at u b) h g =
+  behind_tile t nowhere h g = absurd h
+  behind_tile t (at u b) h g =
       (λ i. each (wrap (h.tile i) (W.padding s)) (g.is i)) ∙
       ap (λ (b : Text). each (wrap (laid 8 (stands (W.tile_entries u))) (W.padding s)) (each (tensored 8) (W.inner_by (W.opened s b)))) h.onward ∙
       wrapped (W.tile_entries u) (W.padding s) (W.inner_by (W.opened s b))
@@ -124,16 +125,21 @@ module _ (s : Text) (i : ℕ) where
 
     module _ {t : TileShape} (e : r ≡ Some t) where
       pub behind_fits : (i + 6 ≤ t.behind) × (t.behind ≤ length s)
-      behind_fits = fits (between (bytes "tile=(") (bytes ")") s) (rw e at h)
+      behind_fits = fits t (between (bytes "tile=(") (bytes ")") s) (rw e at h)
 
       module _ {o : Option Tensor} (g : TensorIs o (W.inner_by (W.opened s (drop t.behind s)))) where
+        seen : each (wrap (list t.tile) (W.padding s)) (each tensor_parts o) ≡ each (viewed 8) (W.view_by s (between (bytes "tile=(") (bytes ")") s))
+        seen = behind_tile t (between (bytes "tile=(") (bytes ")") s) (rw e at h) g
+
         pub no_tensor_view : {v : Option View} → o ≡ None → v ≡ None → ViewIs v (W.view s)
         unfolding W.view
-        no_tensor_view n f = rw f (record { is = rw n at behind_tile (between (bytes "tile=(") (bytes ")") s) (rw e at h) g })
+        no_tensor_view n f = rw f (record { is = sym (ap (λ (o : Option Tensor). each (wrap (list t.tile) (W.padding s)) (each tensor_parts o)) n) ∙ seen })
 
         pub whole_view : {v : Tensor} {q : Padding} → o ≡ Some v → q ≡ W.padding s → ViewIs (Some (record { tile = t.tile; tensor = v; padding = q })) (W.view s)
         unfolding W.view
-        whole_view n f = record { is = rw (n, sym f) at behind_tile (between (bytes "tile=(") (bytes ")") s) (rw e at h) g }
+        whole_view {v} n f = record {
+          is = (λ i. Some (wrap (list t.tile) (f i) (tensor_parts v))) ∙ sym (ap (λ (o : Option Tensor). each (wrap (list t.tile) (W.padding s)) (each tensor_parts o)) n) ∙ seen;
+        }
 
 -- ── the three views ──
 
@@ -183,7 +189,7 @@ module _ (s : Text) {r : Option View} (g : ViewIs r (W.view s)) where
     or_own c q e h = h ∙ ap (λ (o : Laid). list_laid o q) e ∙ list_or_laid c q
 
     -- an unclosed list refuses a partition view
-    pub partition_unclosed : ListIs s C.Unclosed (W.list_after (bytes "dim_map=[") s) → None ≡ each (carried 8) (W.partition_view s)
+    pub partition_unclosed : ListIs C.Unclosed (W.list_after (bytes "dim_map=[") s) → None ≡ each (carried 8) (W.partition_view s)
     unfolding W.partition_view
     partition_unclosed l = λ i. each (carried 8) (W.partition_from (l.is i) (sym has.is i))
 
@@ -194,14 +200,14 @@ module _ (s : Text) {r : Option View} (g : ViewIs r (W.view s)) where
         built_is map traversal sparse a b c = w ∙ ap Some (B.view_is (view_parts v) k map traversal sparse has.value has.same a b c)
 
       module _ (w : x ≡ view_built K.Partition v m t z) (b : t ≡ laid 8 unused) (c : z ≡ laid 8 unused) where
-        pub partition_listed : (a e : ℕ) → ListIs s (C.Between a e) (W.list_after (bytes "dim_map=[") s)
-            → m ≡ laid 8 (smalls (pos 0) (split 44 (take (e - a) (drop a s)))) → x ≡ each (carried 8) (W.partition_view s)
+        pub partition_listed : (u : Bor Text) → ListIs (C.Between u) (W.list_after (bytes "dim_map=[") s)
+            → m ≡ laid 8 (smalls (pos 0) (split 44 u.now)) → x ≡ each (carried 8) (W.partition_view s)
         unfolding W.partition_view
-        partition_listed a e l d =
-            built_is K.Partition w (W.entries (take (e - a) (drop a s))) unused unused (entries_are (take (e - a) (drop a s)) d) b c ∙
+        partition_listed u l d =
+            built_is K.Partition w (W.entries u.now) unused unused (entries_are u.now d) b c ∙
             (λ i. each (carried 8) (W.partition_from (l.is i) (sym has.is i)))
 
-        pub partition_absent : ListIs s C.Absent (W.list_after (bytes "dim_map=[") s)
+        pub partition_absent : ListIs C.Absent (W.list_after (bytes "dim_map=[") s)
             → m ≡ laid 8 (filled (W.count_up 0 v.tile.row.len)) → x ≡ each (carried 8) (W.partition_view s)
         unfolding W.partition_view
         partition_absent l d =

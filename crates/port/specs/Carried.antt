@@ -1,5 +1,5 @@
 -- What the port's parts answer, for private contracts: a type that was found, each list as it is carried, and the reading that is made of it.
-use Rattle.std.specs.Prelude.{if◌then◌else◌, ℕ, zero, suc, ◌+◌, ◌-◌, ◌≤◌, Bool, true, false, ◌&&◌, ◌||◌, ◌≡◌, pos, leb, get_or, length, take, drop, Option, None, Some}
+use Rattle.std.specs.Prelude.{if◌then◌else◌, ℕ, zero, suc, ◌+◌, ◌≤◌, Bool, false, ◌&&◌, ◌||◌, ◌≡◌, pos, leb, get_or, length, drop, Option, None, Some}
 use Rattle.lexis.specs.Text.{Text, Cut, nowhere, at}
 use Rattle.scalars.specs.declared.scalar.Scalar.{Scalar}
 use Rattle.meaning.specs.Found.{stands, Found}
@@ -20,8 +20,8 @@ use Rattle.port.specs.declared.tensor_view.Tensor.{Tensor}
 use Rattle.port.specs.declared.brackets.Content.{Content}
 use Rattle.port.specs.declared.views.View.{View}
 use Rattle.port.specs.declared.views.TileShape.{TileShape}
-use Rattle.port.specs.declared.views.Closed.{Closed}
-use Rattle.port.specs.declared.views.Closed.TheVariants as C
+use Rattle.port.specs.declared.views.Listed.{Listed}
+use Rattle.port.specs.declared.views.Listed.TheVariants as C
 
 -- ── a type ──
 
@@ -181,21 +181,16 @@ TileIs s i None (at u t) = ⊥
 TileIs s i (Some r) nowhere = ⊥
 TileIs s i (Some r) (at u t) = Tiled s i r u t
 
--- ── a list in brackets, by its place ──
+-- ── a list in brackets ──
 
-abbrev pub listing : Text → Closed → W.Listed
-listing s C.Absent = W.absent
-listing s C.Unclosed = W.unclosed
-listing s (C.Between a e) = W.listed (take (e - a) (drop a s))
+abbrev pub listing : Listed → W.Listed
+listing C.Absent = W.absent
+listing C.Unclosed = W.unclosed
+listing (C.Between t) = W.listed t.now
 
-abbrev pub Inside : Text → Closed → Type 0
-Inside s C.Absent = Unit {0}
-Inside s C.Unclosed = Unit {0}
-Inside s (C.Between a e) = (a ≤ e) × (e ≤ length s)
-
-pub record ListIs (s : Text) (r : Closed) (l : W.Listed) : Type 0 where
-  pub is : listing s r ≡ l
-  pub inside : Inside s r
+-- a record, so that what stands under it can be inferred
+pub record ListIs (r : Listed) (l : W.Listed) : Type 0 where
+  pub is : listing r ≡ l
 
 -- the list, or what fills in for it
 abbrev pub list_laid : Laid → W.Listed → Laid

@@ -82,62 +82,27 @@ pub(crate) fn sighted(s: &[u8], i: usize, r: Places) -> Places
     requires { (i < length s.now) × Sights s.now i r }
     ensures { Sights s.now (i + 1) result }
 {
-    let b = s[i];
-    let ptr = r.ptr;
-    let spaced = r.spaced;
-    let bare = r.bare;
-    let tile = r.tile;
-    let map = r.map;
-    let traversal = r.traversal;
-    let sparse = r.sparse;
-    let named = r.named;
-    let prefixed = r.prefixed;
-    let padding = r.padding;
-    let plain = r.plain;
-    if b == b'=' {
-        return Places {
-            ptr,
-            spaced: sight(s, i, b", strides=", 0, spaced),
-            bare: sight(s, i, b",strides=", 0, bare),
-            tile: sight(s, i, b"tile=(", 1, tile),
-            map: sight(s, i, b"dim_map=[", 1, map),
-            traversal: sight(s, i, b"traversal_strides=[", 1, traversal),
-            sparse: sight(s, i, b"sparse_dim=", 0, sparse),
-            named,
-            prefixed,
-            padding,
-            plain,
-        };
+    match s[i] {
+        b'=' => Places {
+            spaced: sight(s, i, b", strides=", 0, r.spaced),
+            bare: sight(s, i, b",strides=", 0, r.bare),
+            tile: sight(s, i, b"tile=(", 1, r.tile),
+            map: sight(s, i, b"dim_map=[", 1, r.map),
+            traversal: sight(s, i, b"traversal_strides=[", 1, r.traversal),
+            sparse: sight(s, i, b"sparse_dim=", 0, r.sparse),
+            ..r
+        },
+        b'<' => Places {
+            ptr: sight(s, i, b"ptr<", 0, r.ptr),
+            named: sight(s, i, b"tensor_view=!cuda_tile.tensor_view<", 0, r.named),
+            prefixed: sight(s, i, b"!cuda_tile.tensor_view<", 0, r.prefixed),
+            plain: sight_behind(s, i, r.tile, r.plain),
+            ..r
+        },
+        b'g' => Places {
+            padding: sight(s, i, b"padding_value", 6, r.padding),
+            ..r
+        },
+        _ => r,
     }
-    if b == b'<' {
-        return Places {
-            ptr: sight(s, i, b"ptr<", 0, ptr),
-            spaced,
-            bare,
-            tile,
-            map,
-            traversal,
-            sparse,
-            named: sight(s, i, b"tensor_view=!cuda_tile.tensor_view<", 0, named),
-            prefixed: sight(s, i, b"!cuda_tile.tensor_view<", 0, prefixed),
-            padding,
-            plain: sight_behind(s, i, tile, plain),
-        };
-    }
-    if b == b'g' {
-        return Places {
-            ptr,
-            spaced,
-            bare,
-            tile,
-            map,
-            traversal,
-            sparse,
-            named,
-            prefixed,
-            padding: sight(s, i, b"padding_value", 6, padding),
-            plain,
-        };
-    }
-    r
 }

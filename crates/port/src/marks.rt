@@ -33,12 +33,9 @@ pub(crate) fn copy(s: &[u8], room: &mut [u8], at: usize) -> usize
     requires { at + length s.now ≤ length room.old }
     ensures { (result ≡ at + length s.now) × (take result room.new ≡ take at room.old ++ s.now) }
 {
-    let mut i = 0;
-    while i < s.len() {
-        room[at + i] = s[i];
-        i += 1;
-    }
-    at + i
+    let end = at + s.len();
+    room[at..end].copy_from_slice(s);
+    end
 }
 
 // Copies `text` without its marks, the first of which stands at `first`, to the front of `room`, and returns how many bytes that is.

@@ -58,16 +58,14 @@ pub(crate) fn survey_content(s: &[u8]) -> Scanning
 {
     let r = scan(s);
     let n = s.len();
-    let end = r.end;
-    if end < n {
+    if r.end < n {
         return r;
     }
     if n == 0 {
         return r;
     }
     if s[n - 1] == b'>' {
-        let places = r.places;
-        return Scanning { end: n - 1, places };
+        return Scanning { end: n - 1, ..r };
     }
     r
 }

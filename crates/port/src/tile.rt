@@ -50,7 +50,7 @@ fn pointer_shape(before: &[u8]) -> Dims
     ensures { list result ≡ laid 8 (dimensions (before_pointer (less_repeats (bytes "!cuda_tile.") (trim before.now)))) }
 {
     let b = trim_end_repeats(lexis::trim(before), b"!cuda_tile.");
-    if b.len() == 0 {
+    if b.is_empty() {
         return Dims::none();
     }
     lists::parse_dims(lexis::trim_end_matches(b, b'x'), b'x')
@@ -60,10 +60,8 @@ fn scalar_tile(inner: &[u8], marked: bool) -> Reading
     ensures { result ≡ answered marked (each (carried 8) (tile_by inner.now nowhere)) }
 {
     let f = lists::parse_front(inner);
-    let last = f.last;
-    let dims = f.dims;
-    match scalars::parse_scalar(&inner[last..]) {
-        Some(e) => simple(Kind::Tile, e, false, dims, Dims::none(), marked),
+    match scalars::parse_scalar(&inner[f.last..]) {
+        Some(e) => simple(Kind::Tile, e, false, f.dims, Dims::none(), marked),
         None => refuse(Refusal::NoType, 0),
     }
 }

@@ -33,12 +33,12 @@ pub struct View {
     pub padding: Padding,
 }
 
-// A list that runs to the next `]`: where it begins and ends.
+// A list that runs to the next `]`.
 #[derive(Clone, Copy)]
-pub enum Closed {
+pub enum Listed<'a> {
     Absent,
     Unclosed,
-    Between(usize, usize),
+    Between(&'a [u8]),
 }
 
 // `at` is the place of the first `tile=(`.
@@ -128,18 +128,18 @@ fn parse_view(inner: &[u8], k: Places) -> Option<View>
     })
 }
 
-// Where the list after the first `prefix`, which stands at `at`, begins and ends.
-fn list_after(inner: &[u8], prefix: &[u8], at: usize) -> Closed
+// The list after the first `prefix`, which stands at `at`.
+fn list_after<'a>(inner: &'a [u8], prefix: &[u8], at: usize) -> Listed<'a>
     requires { Spot prefix.now inner.now at }
-    ensures { ListIs inner.now result (list_after prefix.now inner.now) }
+    ensures { ListIs result (list_after prefix.now inner.now) }
 {
     if inner.len() <= at {
-        return Closed::Absent;
+        return Listed::Absent;
     }
-    let start = at + prefix.len();
-    match lexis::find(&inner[start..], b"]") {
-        Some(n) => Closed::Between(start, start + n),
-        None => Closed::Unclosed,
+    let rest = &inner[at + prefix.len()..];
+    match lexis::find(rest, b"]") {
+        Some(n) => Listed::Between(&rest[..n]),
+        None => Listed::Unclosed,
     }
 }
 
@@ -149,9 +149,8 @@ fn parse_i32_list_after(inner: &[u8], prefix: &[u8], at: usize, own: Smalls) -> 
     ensures { list result ≡ list_laid (list own) (list_after prefix.now inner.now) }
 {
     match list_after(inner, prefix, at) {
-        Closed::Between(a, e) => lists::parse_smalls(&inner[a..e], b',', 0),
-        Closed::Unclosed => own,
-        Closed::Absent => own,
+        Listed::Between(l) => lists::parse_smalls(l, b',', 0),
+        Listed::Unclosed | Listed::Absent => own,
     }
 }
 
@@ -182,13 +181,9 @@ fn view_of(
     ensures { result ≡ answered marked (Some (built kind v.tensor.element false (list v.tensor.shape) (list v.tensor.strides) (list v.tile) (list map) (list traversal) (list sparse) v.padding)) }
 {
     let t = v.tensor;
-    let element = t.element;
-    let shape = t.shape;
-    let strides = t.strides;
-    let tile = v.tile;
-    let padding = v.padding;
     made(
-        kind, element, false, shape, strides, tile, map, traversal, sparse, padding, marked,
+        kind, t.element, false, t.shape, t.strides, v.tile, map, traversal, sparse, v.padding,
+        marked,
     )
 }
 
@@ -200,23 +195,22 @@ pub(crate) fn parse_partition_view(inner: &[u8], k: Places, marked: bool) -> Rea
     let Some(v) = parse_view(inner, k) else {
         return refuse(Refusal::NoType, 0);
     };
-    let tile = v.tile;
     match list_after(inner, b"dim_map=[", k.map) {
-        Closed::Between(a, e) => {
+        Listed::Between(l) => {
             view_of(
                 Kind::Partition,
                 v,
-                lists::parse_smalls(&inner[a..e], b',', 0),
+                lists::parse_smalls(l, b',', 0),
                 Smalls::none(),
                 Smalls::none(),
                 marked,
             )
         }
-        Closed::Unclosed => refuse(Refusal::NoType, 0),
-        Closed::Absent => view_of(
+        Listed::Unclosed => refuse(Refusal::NoType, 0),
+        Listed::Absent => view_of(
             Kind::Partition,
             v,
-            lists::count_up(tile.row.len),
+            lists::count_up(v.tile.row.len),
             Smalls::none(),
             Smalls::none(),
             marked,
@@ -248,8 +242,7 @@ pub(crate) fn parse_strided_view(inner: &[u8], k: Places, marked: bool) -> Readi
     let Some(v) = parse_view(inner, k) else {
         return refuse(Refusal::NoType, 0);
     };
-    let tile = v.tile;
-    let n = tile.row.len;
+    let n = v.tile.row.len;
     let map = parse_i32_list_after(inner, b"dim_map=[", k.map, lists::count_up(n));
     let traversal = parse_i32_list_after(
         inner,

@@ -1,16 +1,20 @@
--- `strip_prefix_suffix` meets its contract: the content stands behind the prefix, and is as long as the caller was told.
-use native.Mathlib.Omega.{arith}
-use Rattle.port.proofs.Bracketing as L
+-- `strip_prefix_suffix` meets its contract: behind the prefix stands the content, and it was scanned.
+use Rattle.std.proofs.Common.{arith, sym, ◌∙◌, refl}
+use Rattle.lexis.proofs.Seeking.{begins_within}
+use Rattle.port.proofs.Contents as L
 use Rattle.port.proofs.brackets.strip_prefix_suffix.Goals as goal
 
 pub slice_bounds-t-count : goal.slice_bounds-t-count
-slice_bounds-t-count c = omega (arith, L.bracketed_within c.args.prefix.now c.args.s.now c.args.n c.requires)
+slice_bounds-t-count c = let a = c.args in omega (arith, begins_within a.prefix.now a.s.now (sym c.begins.ensures ∙ c.if-not-begins.false))
 
 pub slice_bounds-t-start : goal.slice_bounds-t-start
-slice_bounds-t-start c = omega (arith, L.bracketed_within c.args.prefix.now c.args.s.now c.args.n c.requires)
+slice_bounds-t-start c = let a = c.args in omega (arith, begins_within a.prefix.now a.s.now (sym c.begins.ensures ∙ c.if-not-begins.false))
 
-pub slice_bounds-result-end : goal.slice_bounds-result-end
-slice_bounds-result-end c = let a = c.args in L.content_fits a.prefix.now a.s.now a.n c.requires
+pub returns-then-not-begins : goal.returns-then-not-begins
+returns-then-not-begins c = let a = c.args in L.foreign_form a.prefix.now a.s.now (sym c.begins.ensures ∙ c.if-not-begins.true)
+
+pub returns-then-r-t : goal.returns-then-r-t
+returns-then-r-t c = let a = c.args in L.scanned_form a.prefix.now a.s.now (sym c.begins.ensures ∙ c.if-not-begins.false) c.survey_content-r.ensures c.if-r-t.true refl refl
 
 pub returns : goal.returns
-returns c = let a = c.args in L.content_is a.prefix.now a.s.now a.n c.requires
+returns c = let a = c.args in L.unscanned_form a.prefix.now a.s.now (sym c.begins.ensures ∙ c.if-not-begins.false) c.survey_content-r.ensures c.if-r-t.false

@@ -3,8 +3,8 @@ use borrow.Author.Rules.{rules}
 use Rattle.port.proofs.Contents as L
 use Rattle.port.proofs.survey.survey_content.Goals as goal
 
-pub returns-then-end-n : goal.returns-then-end-n
-returns-then-end-n c = L.by_match c.scan-r.ensures (search rules)
+pub returns-then-r-n : goal.returns-then-r-n
+returns-then-r-n c = L.by_match c.scan-r.ensures (search rules)
 
 pub returns-then-n-eq0 : goal.returns-then-n-eq0
 returns-then-n-eq0 c = L.by_nothing c.scan-r.ensures (search rules) c.if-n-eq0.true
