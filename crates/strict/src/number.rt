@@ -6,6 +6,7 @@ ghost use Rattle.strict.specs.Cursor.{Told, numeral, dimension, Spaced};
 use super::cursor::{Read, Stuck};
 
 // A dimension or stride whose size is not statically known.
+// kept: C gets this number in a list's place (docs/ABI.md), so that an entry is no `Option`
 const DYNAMIC: i64 = i64::MIN;
 
 // Digits from `at` on, as long as the value is at most `most`; a digit is held to that only where it may pass it.
@@ -101,6 +102,7 @@ pub(crate) fn number32(s: &[u8], at: usize) -> Result<Read<i32>, Stuck>
     ensures { Told s.now at (numeral (2 ^ 31) (2 ^ 31 + 1) (drop at s.now)) (λ z. z) result }
 {
     let n = number(s, at, i32::MAX as u64, i32::MAX as u64 + 1)?;
+    // kept: `try_from` would add an error that `number` rules out
     Ok(Read {
         value: n.value as i32,
         end: n.end,
