@@ -6,6 +6,7 @@ use crate::TypetextRecord;
 use meaning::{Kind, Padding, Record};
 use scalars::Scalar;
 
+// kept: `TryFrom` for these would stand in `meaning` and `scalars`, which know nothing of C
 fn kind_of(n: u8) -> Option<Kind>
     ensures { result ≡ kind_of n }
 {
