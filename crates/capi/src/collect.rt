@@ -1,4 +1,5 @@
 // The collector's C face: the collector lies in a block of bytes that the caller lends (docs/ABI.md).
+// kept: C lends one block of bytes, so that number and mark are read off it, and no struct holds them beside the bytes
 ghost use Rattle.std.specs.Prelude.{◌+◌, ◌*◌, ◌≤◌, ◌++◌, ◌≡◌, length, take};
 ghost use Rattle.numbers.specs.Numbers.{in_numbers};
 ghost use Rattle.capi.specs.Block.{formed, Formed, last_bytes, lent, feed_number, fed_block, read_block, ended_block};
@@ -46,7 +47,7 @@ fn feed_formed(block: &mut [u8], len: usize, over: bool, piece: &[u8]) -> u8
             store(block, n, o);
             0
         }
-        Err(Refused::NotInOrder) => 6,
+        Err(Refused::NotInOrder) => Refused::NotInOrder as u8,
     }
 }
 
@@ -75,7 +76,7 @@ pub extern "C" fn typetext_feed(block: &mut [u8], piece: &[u8]) -> u8
         × (block.new ≡ fed_block 1024 block.old piece.now (lent 1024 block.old)) }
 {
     if !formed(block) {
-        return 6;
+        return Refused::NotInOrder as u8;
     }
     let len = two_bytes(block[SIZE], block[SIZE + 1]);
     let over = block[SIZE + 2] == 1;

@@ -3,9 +3,10 @@ ghost use Rattle.std.specs.Prelude.{◌≡◌};
 ghost use Rattle.sheet.specs.Sheet.{cut, totals};
 ghost use Rattle.capi.specs.Sheets.{sheet_number, total_numbers, row_numbers};
 
-use sheet::{LIMIT, Totals};
+use sheet::{Counted, LIMIT, Totals};
 
 // Totals in numbers.
+// kept: C gets these fields (docs/ABI.md)
 #[repr(C)]
 #[derive(Clone, Copy)]
 pub struct TypetextTotals {
@@ -23,6 +24,7 @@ pub struct TypetextTotals {
 }
 
 // Where a row lies.
+// kept: C gets these fields, and `found` beside a place (docs/ABI.md)
 #[repr(C)]
 #[derive(Clone, Copy)]
 pub struct TypetextRow {
@@ -56,7 +58,11 @@ fn total_numbers(t: Totals) -> TypetextTotals
 fn sheet_number(sheet: &[u8]) -> u8
     ensures { result ≡ sheet_number sheet.now }
 {
-    if sheet.len() <= LIMIT { 0 } else { 9 }
+    if sheet.len() <= LIMIT {
+        Counted::Whole as u8
+    } else {
+        Counted::TooLong as u8
+    }
 }
 
 // The totals over a sheet's rows. Any bytes get an answer.

@@ -6,6 +6,7 @@ use meaning::Refusal;
 use numbers::TypetextRecord;
 
 // The writer's answer in numbers.
+// kept: C gets these fields (docs/ABI.md)
 #[repr(C)]
 #[derive(Clone, Copy)]
 pub struct TypetextWritten {

@@ -15,6 +15,7 @@ use scalars::Scalar;
 pub const CAP: usize = 8;
 
 // A dimension or stride whose size is not statically known, written `?`.
+// kept: C gets this number in a list's place (docs/ABI.md), so that an entry is no `Option`
 pub const DYNAMIC: i64 = i64::MIN;
 
 // The kinds of a type.

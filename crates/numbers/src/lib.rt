@@ -12,6 +12,7 @@ use scalars::Scalar;
 pub use sent::of_numbers;
 
 // A record in numbers, as a caller may send it.
+// kept: C gets these fields (docs/ABI.md)
 #[repr(C)]
 #[derive(Clone, Copy)]
 pub struct TypetextRecord {
@@ -34,6 +35,7 @@ pub struct TypetextRecord {
 }
 
 // A note in numbers: one struct, so that what it tells more later grows here alone.
+// kept: C gets these fields (docs/ABI.md)
 #[repr(C)]
 #[derive(Clone, Copy)]
 pub struct TypetextNote {
@@ -44,6 +46,7 @@ pub struct TypetextNote {
 }
 
 // A reading in numbers; its value can be handed to the writer as it is.
+// kept: C gets these fields (docs/ABI.md)
 #[repr(C)]
 #[derive(Clone, Copy)]
 pub struct TypetextReading {
@@ -53,7 +56,7 @@ pub struct TypetextReading {
     pub refusal: u8,
 }
 
-// kept: three casts, as each meets a definition of its own (specs/Numbers.antt)
+// kept: `From` for these would stand in `meaning` and `scalars`, which know nothing of C
 fn kind_number(k: Kind) -> u8
     ensures { result ≡ kind_number k }
 {
@@ -113,6 +116,7 @@ fn note_numbers(n: Note) -> TypetextNote
     }
 }
 
+// kept: `in_numbers` is a public function, which the contracts of `capi` name
 #[tactic(auto, unfolding(crate::specs::Numbers::in_numbers))]
 pub fn in_numbers(r: Reading) -> TypetextReading
     ensures { result ≡ in_numbers r }

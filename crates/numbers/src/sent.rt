@@ -6,7 +6,7 @@ use crate::TypetextRecord;
 use meaning::{Kind, Padding, Record};
 use scalars::Scalar;
 
-// kept: a cast goes one way alone, and the enums are of other crates, so that no `TryFrom` can be written here
+// kept: `TryFrom` for these would stand in `meaning` and `scalars`, which know nothing of C
 fn kind_of(n: u8) -> Option<Kind>
     ensures { result ≡ kind_of n }
 {

@@ -5,7 +5,7 @@
 ghost use Rattle.std.specs.Prelude.{◌≡◌};
 ghost use Rattle.meaning.specs.Ordinary.{ordinary};
 
-use meaning::Reading;
+use meaning::{Reading, Refusal};
 
 // What `Type::parse` returns, with the default counts; or the refusal 1, 2, 3 or 4, the first that applies. The strict reader is asked
 // first: only its refusal 5 leaves the answer open, and then the text is short and ASCII.
@@ -14,9 +14,8 @@ pub fn parse(text: &[u8]) -> Reading
 {
     let t = &text[0..]; // all of it, handed on as two words (decision 55)
     let r = strict::parse_strict(t);
-    let refusal = r.refusal;
-    if refusal.number() != 5 {
-        return r;
+    match r.refusal {
+        Refusal::NotStrict => port::parse(t),
+        _ => r,
     }
-    port::parse(t)
 }

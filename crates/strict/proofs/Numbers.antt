@@ -25,8 +25,8 @@ module _ (L n : ℕ) where
   abbrev goes : ℕ → List ℕ → Bool → Answer ℕ
   goes b t k = elim k [ true ↦ N.grow L (n * 10 + (b - 48)) t | false ↦ got n (b ∷ t) ]
 
-  pub grow_end : (s : List ℕ) (i : ℕ) → length s ≤ i → N.grow L n (drop i s) ≡ got n (drop i s)
-  grow_end s i h = rw (drop_of_length-le s h)
+  pub grow_end : (s : List ℕ) (i : ℕ) → length s ≤ i → N.grow L n (drop i s) ≡ got n (drop (length s) s)
+  grow_end s i h = let k : length s ≤ length s = omega arith in rw (drop_of_length-le s h, drop_of_length-le s k)
 
   grow_off : (s : List ℕ) (i : ℕ) → i < length s → (T (digit (get_or s i 0) && ltb (n * 10 + (get_or s i 0 - 48)) L) → ⊥) → N.grow L n (drop i s) ≡ got n (drop i s)
   grow_off s i h k = rw (view s i h) (ap (goes (get_or s i 0) (drop (i + 1) s)) (TNotEq (digit (get_or s i 0) && ltb (n * 10 + (get_or s i 0 - 48)) L) (not_T (digit (get_or s i 0) && ltb (n * 10 + (get_or s i 0 - 48)) L) k)))

@@ -35,9 +35,6 @@ ahead [] (suc n) c e h = absurd (subst (λ (z : ℕ). T (ltb 0 z)) (sym e) h)
 ahead (x ∷ s) zero c e h = omega arith
 ahead (x ∷ s) (suc n) c e h = let k = ahead s n c e h in omega arith
 
-pub get_d_out : (s : List ℕ) (i : ℕ) → length s ≤ i → get_or s i 0 ≡ 0
-get_d_out s i h = byte s i ∙ ap (λ (t : List ℕ). get_or t 0 0) (drop_of_length-le s h)
-
 pub has_first : (v w : List ℕ) → T (differ v w) → 0 < length w
 has_first [] w d = absurd d
 has_first (x ∷ v) [] d = absurd d

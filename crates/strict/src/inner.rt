@@ -84,6 +84,7 @@ fn read_core(s: &[u8], at: usize) -> Result<Read<Core>, Stuck>
 }
 
 // What stands in a tile, with its end.
+// kept: a list without entries as a type of its own would be two, as no generic struct holds an array of a type parameter
 pub(crate) fn read_tile(s: &[u8], at: usize, shape: &mut [i64]) -> Result<Read<Tile>, Stuck>
     requires at_in_bounds { at ≤ length s.now }
     requires shape_value { shape.old ≡ padded 8 [] }
@@ -138,6 +139,7 @@ fn read_rest(s: &[u8], at: usize, rank: usize, strides: &mut [i64]) -> Result<Re
 }
 
 // What stands in a tensor view, with its end.
+// kept: lent as one, the lists would want a clause for each that stays as it was
 pub(crate) fn read_tensor(
     s: &[u8],
     at: usize,

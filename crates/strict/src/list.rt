@@ -134,9 +134,11 @@ impl Items<i64> for Shape {
 }
 
 // One entry more; past the capacity it is only counted.
+// kept: no heap is used, so that a list is no `Vec`: its number of entries stands beside it, and may be over the capacity
 fn put<E: Copy>(out: &mut [E], n: usize, v: E)
     ensures { out.new ≡ set out.old n v }
 {
+    // kept: `if let Some(e) = out.get_mut(n)` was tried, and its proof didn't close
     if n < out.len() {
         out[n] = v;
     }
@@ -155,6 +157,7 @@ fn read_items<E: Copy, I: Items<E>>(
 {
     let mut n = len;
     let mut i = at;
+    // kept: an item is as long as its reader finds, so that no `for` goes from one to the next
     while i < s.len() {
         if !I::begins(s[i]) {
             return Ok(Read { value: n, end: i });
@@ -168,6 +171,7 @@ fn read_items<E: Copy, I: Items<E>>(
 }
 
 // Dimensions, each followed by `x`.
+// kept: a list without entries as a type of its own would be two, as no generic struct holds an array of a type parameter
 pub(crate) fn read_shape(s: &[u8], at: usize, out: &mut [i64]) -> Result<Read<usize>, Stuck>
     requires at_in_bounds { at ≤ length s.now }
     requires out_value { out.old ≡ padded 8 [] }

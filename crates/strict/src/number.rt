@@ -14,8 +14,7 @@ fn grow(s: &[u8], at: usize, v: u64, most: u64) -> Read<u64>
     ensures below { result.value ≤ most }
 {
     let mut n = v;
-    let mut i = at;
-    while i < s.len() {
+    for i in at..s.len() {
         let b = s[i];
         if b < b'0' {
             return Read { value: n, end: i };
@@ -33,9 +32,11 @@ fn grow(s: &[u8], at: usize, v: u64, most: u64) -> Read<u64>
             }
         }
         n = n * 10 + d;
-        i += 1;
     }
-    Read { value: n, end: i }
+    Read {
+        value: n,
+        end: s.len(),
+    }
 }
 
 // A number from 1 to `most`.
@@ -98,6 +99,7 @@ pub(crate) fn number32(s: &[u8], at: usize) -> Result<Read<i32>, Stuck>
     ensures { Told s.now at (numeral (2 ^ 31) (2 ^ 31 + 1) (drop at s.now)) (λ z. z) result }
 {
     let n = number(s, at, i32::MAX as u64, i32::MAX as u64 + 1)?;
+    // kept: `try_from` would add an error that `number` rules out
     Ok(Read {
         value: n.value as i32,
         end: n.end,

@@ -21,6 +21,7 @@ pub(crate) struct Sight {
 }
 
 // The end of a view: how many entries its map has, and its sparse dimension.
+// kept: C gets both fields, 0 for what a view lacks, so that an enum would be taken apart at once
 #[derive(Clone, Copy)]
 pub(crate) struct Last {
     pub(crate) map: usize,
@@ -28,6 +29,7 @@ pub(crate) struct Last {
 }
 
 // What follows the word that opens a tensor view or, where it is `led`, a padding.
+// kept: lent as one, the lists would want a clause for each that stays as it was
 pub(crate) fn read_sight(
     s: &[u8],
     at: usize,
@@ -63,6 +65,7 @@ pub(crate) fn read_sight(
 }
 
 // In a strided view, the traversal after the tile.
+// kept: `walking`, `mid` and `ending` of specs/Views.antt take a flag; a closure for each kind of view is no plainer
 pub(crate) fn read_walk(
     s: &[u8],
     at: usize,

@@ -13,6 +13,7 @@ use meaning::{CAP, Kind, Padding};
 use scalars::Scalar;
 
 // A type of any rank, with how many entries its lists have.
+// kept: no heap is used, so that a list is no `Vec`; a number counts the entries past the capacity too
 #[derive(Clone, Copy)]
 pub(crate) struct Whole {
     pub(crate) kind: Kind,

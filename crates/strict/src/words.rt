@@ -10,10 +10,7 @@ use super::cursor::{Read, Stuck};
 pub(crate) fn peek(s: &[u8], at: usize) -> u8
     ensures { result ≡ get_or s.now at 0 }
 {
-    if at < s.len() {
-        return s[at];
-    }
-    0
+    s.get(at).copied().unwrap_or(0)
 }
 
 // The word `w`, which says `value`.
@@ -21,6 +18,7 @@ pub(crate) fn fit<V: Copy>(s: &[u8], at: usize, w: &[u8], value: V) -> Result<Re
     requires { at ≤ length s.now }
     ensures { Told s.now at (among ((w.now ↝ value) ∷ []) (drop at s.now)) (λ v. v) result }
 {
+    // kept: no iterator is plainer, as word and text are walked from two places and the answer is a place
     let mut i = at;
     for b in w {
         if s.len() <= i || s[i] != *b {

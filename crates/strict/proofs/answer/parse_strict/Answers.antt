@@ -7,8 +7,8 @@ use Rattle.meaning.specs.declared.Refusal.TheVariants.{Accepted}
 use Rattle.strict.proofs.Judging as L
 use Rattle.strict.proofs.answer.parse_strict.Goals as goal
 
-pub returns-then-text-gt1024 : goal.returns-then-text-gt1024
-returns-then-text-gt1024 c = let s = c.args.text.now in L.strictly s (L.too_long s c.if-text-gt1024.true c.refuse.ensures)
+pub returns-then-text-gt-LIMIT : goal.returns-then-text-gt-LIMIT
+returns-then-text-gt-LIMIT c = let s = c.args.text.now in L.strictly s (L.too_long s c.if-text-gt-LIMIT.true c.refuse.ensures)
 
 pub returns-then-eq : goal.returns-then-eq
 returns-then-eq c = let s = c.args.text.now in
