@@ -13,6 +13,7 @@ pub use parts::{end_parts, feed_parts};
 pub const SIZE: usize = 1024;
 
 // The bytes so far, their number, and whether they were too many.
+// kept: no heap is used, and the parts are those of the block that C lends, also out of order (docs/ABI.md, "The block")
 #[derive(Clone, Copy)]
 pub struct Collector {
     pub bytes: [u8; SIZE],

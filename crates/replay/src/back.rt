@@ -1,5 +1,4 @@
 // The type that was read, written, and its text read again.
-use super::render::shown;
 use meaning::{Reading, Record, Refusal};
 
 // What became of a type: the readers return it from its text, or something else; it has no text; or it wasn't written.
@@ -13,13 +12,12 @@ pub enum Back {
 
 // Whether the reading is this type, and took no default.
 fn is(r: Reading, value: Record) -> bool {
-    let plain = Reading {
+    r == Reading {
         refusal: Refusal::Accepted,
         place: 0,
         value,
         note: meaning::no_note(),
-    };
-    shown(r).as_str() == shown(plain).as_str()
+    }
 }
 
 pub fn write_back(value: Record) -> Back {

@@ -3,6 +3,7 @@ use meaning::{CAP, Kind, Note, Padding, Reading, Record, Refusal};
 use std::fmt::{self, Display, Formatter, InlineText};
 use terminal::{Entries, scalar_name};
 
+// kept: the kinds and paddings are another crate's, so that `Display` wants a wrapper and is no plainer
 fn kind_name(kind: Kind) -> &'static str {
     match kind {
         Kind::Scalar => "scalar",
@@ -28,6 +29,7 @@ fn padding_name(padding: Padding) -> &'static str {
 }
 
 // A record's list has at most CAP entries.
+// kept: an array and a length, as they stand in a record
 fn list<W: fmt::Write>(
     f: &mut Formatter<W>,
     name: &str,
@@ -79,7 +81,7 @@ impl Display for Answer {
         match r.refusal {
             Refusal::Accepted => write!(f, "0 {} counts={}", Type(r.value), Counts(r.note)),
             Refusal::HighByte => write!(f, "2 @{}", r.place),
-            refusal => write!(f, "{}", refusal as u8),
+            refusal => write!(f, "{}", refusal.number()),
         }
     }
 }

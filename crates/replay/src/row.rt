@@ -7,6 +7,7 @@ use meaning::Refusal;
 use std::io::{self, Print, Write};
 
 // The value of a hexadecimal digit; 0 where it is none.
+// kept: `to_digit` reads A to F too, which are no digits here
 fn nibble(b: u8) -> u8 {
     match b {
         b'0'..=b'9' => b - b'0',
@@ -32,6 +33,7 @@ fn first(s: &[u8]) -> Option<(u8, &[u8])>
 }
 
 // Puts the bytes that `s` stands for into the room; what doesn't fit is left out.
+// kept: no heap is used, so that they go into a room
 fn unescape<'r>(s: &[u8], room: &'r mut [u8]) -> &'r [u8] {
     let mut t = s;
     let mut n = 0;

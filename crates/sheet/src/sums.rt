@@ -7,7 +7,7 @@ use crate::{Counted, LIMIT};
 use meaning::{Reading, Refusal};
 
 // The totals over the rows: how many, how many of each answer, and the default counts.
-// kept: C gets the four refusals by these names (`TypetextTotals`), and a match names them more plainly than places of an array
+// kept: C gets the refusals and the counts by these names (`TypetextTotals`), and a match names them more plainly than places of an array
 #[derive(Clone, Copy)]
 pub struct Totals {
     pub answer: Counted,

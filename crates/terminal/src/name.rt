@@ -5,6 +5,7 @@ ghost use Rattle.scalars.specs.Names.{scalar_name};
 use scalars::Scalar;
 
 // A scalar's name: the name reader gives the scalar back.
+// kept: `Scalar` is another crate's, so that `Display` wants a wrapper and is no plainer
 #[tactic(auto, unfolding(scalars::specs::Names::scalar_name))]
 pub fn scalar_name(s: Scalar) -> &'static str
     ensures { scalar_name result.now ≡ Some s }

@@ -12,10 +12,10 @@ fn count<R: Print>(rt: &R, n: usize, one: &str, many: &str) -> io::Result<()> {
 }
 
 pub fn counts<R: Print>(rt: &R, n: Note) -> io::Result<()> {
-    let Note { a, b, c, d } = n;
-    if a == 0 && b == 0 && c == 0 && d == 0 {
+    if n == Note::default() {
         return println!(rt; "no default was taken");
     }
+    let Note { a, b, c, d } = n;
     println!(rt; "defaults were taken (a, b, c, d: {a}, {b}, {c}, {d})")?;
     count(
         rt,

@@ -9,6 +9,7 @@ fn field<R: Print, D: Display + Drop>(rt: &R, name: &str, value: D) -> io::Resul
 }
 
 // A record's list has at most CAP entries.
+// kept: an array and a length, as they stand in a record
 fn list<R: Print>(rt: &R, name: &str, values: [i64; CAP], len: usize) -> io::Result<()> {
     let entries = Entries {
         values: &values[..len.min(CAP)],
@@ -17,6 +18,7 @@ fn list<R: Print>(rt: &R, name: &str, values: [i64; CAP], len: usize) -> io::Res
     field(rt, name, format_args!("[{entries}]"))
 }
 
+// kept: the kinds and paddings are another crate's, so that `Display` wants a wrapper and is no plainer
 fn kind_name(kind: Kind) -> &'static str {
     match kind {
         Kind::Scalar => "scalar",

@@ -25,6 +25,7 @@ pub enum Usage {
 }
 
 // How many words there are, the program's name among them.
+// kept: `env::args` takes memory from the heap
 fn arg_count<R: Env>(rt: &R) -> usize {
     let mut room = [0u8; 1];
     for i in 0..usize::MAX {

@@ -5,6 +5,8 @@ ghost use Rattle.writer.specs.Flat.{word_of, padding_text, head_as};
 use meaning::{Kind, Padding};
 use scalars::Scalar;
 
+// kept: the enums are other crates', so that `Display` wants a wrapper, and a word of bytes is put as it is
+
 pub(crate) fn scalar_name(e: Scalar) -> &'static [u8]
     ensures { result.now ≡ word_of e }
 {

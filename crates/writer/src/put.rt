@@ -7,6 +7,7 @@ use std::marker::Model;
 // The longest text has 149 bytes and 78 for each entry of the capacity.
 pub(crate) const LONGEST: usize = 773;
 
+// kept: no heap is used, so that a draft is no `Vec`
 #[derive(Drop)]
 pub(crate) struct Draft {
     bytes: [u8; LONGEST],
@@ -56,6 +57,7 @@ impl Draft {
     }
 
     // The digits of `n`, without a leading zero: from the last on, at the end of a room for the longest.
+    // kept: `write!` answers a `Result` for what can't fail here, and a draft would have to be a `fmt::Write` for it
     fn put_digits(&mut self, n: u64)
         requires { length self.old + length (digits n n []) ≤ LONGEST }
         ensures { self.new ≡ self.old ++ digits n n [] }
