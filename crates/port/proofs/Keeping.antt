@@ -3,13 +3,14 @@ use Prim.Native.Nat.{ℕ, ◌+◌, ◌≤◌, ◌<◌}
 use native.Mathlib.Omega.{arith}
 use mathlib.Core.Bool.{true, false, false≢true}
 use Rattle.std.specs.Prelude.{None, Some}
-use mathlib.Core.Path.{◌≡◌, refl, sym, ap, ◌∙◌}
+use mathlib.Core.Path.{◌≡◌, refl, sym, ap, ◌∙◌, subst}
 use lib.ListN.{length, take, drop, get_or}
 use Rattle.lexis.specs.Text.{Text, place, until}
 use Rattle.lexis.proofs.Seeking.{unshifted}
 use Rattle.lexis.proofs.Passing.{sought_within}
 use Rattle.meaning.specs.Parts.{depth, close}
 use Rattle.port.specs.Seen.{hot}
+use lib.Seq.{take-length}
 use Rattle.port.specs.Keys.{Sights, Placed, Scanned}
 use Rattle.port.specs.declared.keys.Places.{Places}
 use Rattle.port.proofs.Sighting as L
@@ -98,16 +99,16 @@ module _ {s : Text} {d i : ℕ} {r : Places} (g : Kept s d i r) where
     sights = jumped f (omega arith) n;
   }
 
-  pub matched : i < length s → get_or s i 0 ≡ 62 → d ≡ 0 → Scanned s (record { end = i; places = r })
+  pub matched : i < length s → get_or s i 0 ≡ 62 → d ≡ 0 → Scanned s (record { end = Some i; places = r })
   matched h b z = record {
-    end = L.told_some (length s) i h ∙ sym (g.match ∙ D.step s d i None h (D.closes d (get_or s i 0) b z));
+    end = sym (g.match ∙ D.step s d i None h (D.closes d (get_or s i 0) b z));
     inside = g.inside;
     places = closed g.sights b g.inside;
   }
 
-  pub unmatched : length s ≤ i → Scanned s (record { end = length s; places = r })
+  pub unmatched : length s ≤ i → Scanned s (record { end = None; places = r })
   unmatched h = record {
-    end = L.told_none (length s) (length s) (omega arith) ∙ sym (g.match ∙ D.ended s d i h);
-    inside = omega arith;
-    places = ended g.sights h g.inside;
+    end = sym (g.match ∙ D.ended s d i h);
+    inside = tt;
+    places = subst (λ (t : Text). Placed t r) (take-length s) (ended g.sights h g.inside);
   }

@@ -1,7 +1,7 @@
 -- Laws of what the three views share, by what the callees tell: the tile shape, the inner tensor view, the whole view; and of the three views themselves.
 use Rattle.std.specs.Prelude.{Option, None, Some}
 use Rattle.std.proofs.Common.{Bor}
-use Prim.Native.Nat.{ℕ, ◌+◌, ◌-◌, ◌≤◌, ◌<◌}
+use Prim.Native.Nat.{ℕ, ◌+◌, ◌-◌, ◌≤◌}
 use native.Mathlib.Omega.{arith}
 use mathlib.Core.Bool.{false}
 use mathlib.Core.List.{List, []}
@@ -21,9 +21,8 @@ use Rattle.meaning.specs.declared.Kind.TheVariants as K
 use Rattle.meaning.specs.declared.Padding.{Padding}
 use Rattle.lists.specs.Laid.{Laid, laid, smalls, list}
 use Rattle.lists.specs.declared.list.Listing.{Listing}
-use Rattle.port.specs.Keys.{Scanned, AtMost, from}
+use Rattle.port.specs.Keys.{Placed, Scanned, AtMost, before, from}
 use Rattle.port.specs.declared.survey.Scanning.{Scanning}
-use Rattle.port.proofs.Sighting.{told_some, told_none}
 use Rattle.port.proofs.Making.{sound_list}
 use Rattle.port.specs.Carried.{Carried, carried, built, fell, Tensored, tensored, tensor_parts, TensorIs, Viewed, viewed, view_parts, ViewIs, TileIs, ListIs, list_laid}
 use Rattle.port.specs.declared.tensor_view.Tensor.{Tensor}
@@ -69,16 +68,19 @@ unfolding T.tensor T.tensor_parts scalar_name
 empty = refl
 
 module _ {r : Option Tensor} (c : Text) (i : ℕ) {q : Scanning} (g : Scanned (take (length c - i) (drop i c)) q) where
-  pub enclosed_at : q.end < length (take (length c - i) (drop i c)) → TensorIs r (T.tensor (take q.end (take (length c - i) (drop i c))))
+  pub enclosed_at : {n : ℕ} → q.end ≡ Some n → TensorIs r (T.tensor (take n (take (length c - i) (drop i c))))
       → TensorIs r (T.tensor (W.enclosed (close 0 (drop i c))))
-  enclosed_at l h =
-      let e = sym g.end ∙ told_some (length (take (length c - i) (drop i c))) q.end l in
-      rw (close_at (drop i c) q.end (rw (rest c i) at e)) (rw (rest c i) at h)
+  enclosed_at {n} l h =
+      let e = sym g.end ∙ l in
+      rw (close_at (drop i c) n (rw (rest c i) at e)) (rw (rest c i) at h)
 
-  pub enclosed_nowhere : length (take (length c - i) (drop i c)) ≤ q.end → r ≡ None → TensorIs r (T.tensor (W.enclosed (close 0 (drop i c))))
+  pub enclosed_nowhere : q.end ≡ None → r ≡ None → TensorIs r (T.tensor (W.enclosed (close 0 (drop i c))))
   enclosed_nowhere l h =
-      let e = sym g.end ∙ told_none (length (take (length c - i) (drop i c))) q.end l in
+      let e = sym g.end ∙ l in
       rw (close_nowhere (drop i c) (rw (rest c i) at e), empty, h) (record { is = refl })
+
+pub placed_before : {s : Text} {q : Scanning} {n : ℕ} → Scanned s q → q.end ≡ Some n → Placed (take n s) q.places
+placed_before {s} {q} g e = subst (λ (o : Option ℕ). Placed (before s o) q.places) e g.places
 
 pub opened_within : {n i : ℕ} {q : Option ℕ} → AtMost n q → q ≡ Some i → i ≤ n
 opened_within {n} h e = subst (AtMost n) e h

@@ -47,21 +47,27 @@ pub record Placed (c : Text) (r : Places) : Type 0 where
   pub padding : Spot (bytes "padding_value") c r.padding
   pub plain : Later c r.tile r.plain
 
--- where the content ends, and the places in it: in all of s, where it doesn't end
-pub record Scanned (s : Text) (r : Scanning) : Type 0 where
-  pub end : told (length s) r.end ≡ place (close 0 s)
-  pub inside : r.end ≤ length s
-  pub places : Placed (take r.end s) r.places
-
--- the same of the content, which may end at a final `>`: where there is one
-pub record Contained (s : Text) (r : Scanning) : Type 0 where
-  pub end : told (length s) r.end ≡ each length (content s)
-  pub places : r.end < length s → Placed (take r.end s) r.places
-
 -- a place is at most n
 abbrev pub AtMost : ℕ → Option ℕ → Type 0
 AtMost n (Some i) = i ≤ n
 AtMost n None = Unit {0}
+
+-- what stands before a place: all, where there is none
+abbrev pub before : Text → Option ℕ → Text
+before s None = s
+before s (Some n) = take n s
+
+-- where the content ends, if it does, and the places in what stands before
+pub record Scanned (s : Text) (r : Scanning) : Type 0 where
+  pub end : r.end ≡ place (close 0 s)
+  pub inside : AtMost (length s) r.end
+  pub places : Placed (before s r.end) r.places
+
+-- the same of the content, which may end at a final `>`
+pub record Contained (s : Text) (r : Scanning) : Type 0 where
+  pub end : r.end ≡ each length (content s)
+  pub inside : AtMost (length s) r.end
+  pub places : Placed (before s r.end) r.places
 
 -- what follows a place, where there is one
 abbrev pub from : Text → Option ℕ → Option Text

@@ -20,11 +20,9 @@ pub(crate) fn strip_prefix_suffix<'a>(s: &'a [u8], prefix: &[u8]) -> Option<Cont
     }
     let t = &s[prefix.len()..];
     let r = survey_content(t);
-    if r.end < t.len() {
-        return Some(Content {
-            inner: &t[..r.end],
-            places: r.places,
-        });
-    }
-    None
+    let n = r.end?;
+    Some(Content {
+        inner: &t[..n],
+        places: r.places,
+    })
 }

@@ -7,10 +7,10 @@ use super::anchors::Hot;
 use super::keys::{Places, none_yet, sighted};
 use lexis::seek;
 
-// Where a content ends, or the text's length, and the places in what stands before.
+// Where a content ends, if it does, and the places in what stands before.
 #[derive(Clone, Copy)]
 pub struct Scanning {
-    pub end: usize,
+    pub end: Option<usize>,
     pub places: Places,
 }
 
@@ -40,7 +40,10 @@ pub(crate) fn scan(s: &[u8]) -> Scanning
         let b = s[i];
         if b == b'>' {
             if d == 0 {
-                return Scanning { end: i, places: r };
+                return Scanning {
+                    end: Some(i),
+                    places: r,
+                };
             }
         }
         d = deepened(d, b);
@@ -48,7 +51,7 @@ pub(crate) fn scan(s: &[u8]) -> Scanning
         i = seek(s, i + 1, Hot);
     }
     Scanning {
-        end: s.len(),
+        end: None,
         places: r,
     }
 }
@@ -58,15 +61,18 @@ pub(crate) fn survey_content(s: &[u8]) -> Scanning
     ensures { Contained s.now result }
 {
     let r = scan(s);
-    let n = s.len();
-    if r.end < n {
+    if let Some(_) = r.end {
         return r;
     }
+    let n = s.len();
     if n == 0 {
         return r;
     }
     if s[n - 1] == b'>' {
-        return Scanning { end: n - 1, ..r };
+        return Scanning {
+            end: Some(n - 1),
+            ..r
+        };
     }
     r
 }

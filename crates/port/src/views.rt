@@ -111,10 +111,8 @@ fn parse_enclosed(inner: &[u8], i: usize) -> Option<Tensor>
 {
     let s = &inner[i..];
     let r = scan(s);
-    if r.end < s.len() {
-        return parse_tensor(&s[..r.end], r.places);
-    }
-    None
+    let n = r.end?;
+    parse_tensor(&s[..n], r.places)
 }
 
 fn parse_view(inner: &[u8], k: Places) -> Option<View>
