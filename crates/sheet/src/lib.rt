@@ -34,6 +34,7 @@ impl Counted {
 }
 
 // Where a row lies: its first byte, its end, and the place behind its line feed.
+// kept: C gets these places (`TypetextRow`), so that they are no slices
 #[derive(Clone, Copy)]
 pub struct Cut {
     pub first: usize,

@@ -47,6 +47,7 @@ impl Totals {
 }
 
 // No row yet.
+// kept: `Default` would have to choose an answer too
 pub(crate) fn none(answer: Counted) -> Totals
     ensures { result ≡ none answer }
 {

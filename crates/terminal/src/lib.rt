@@ -19,6 +19,7 @@ pub fn fill<R: Read>(from: &mut R, room: &mut [u8]) -> Result<usize, usize>
     ensures failed_bound { IfErr result (λ n. n ≤ length room.new) }
     ensures failed_bytes { IfErr result (λ n. Consumes (R.remaining from.old) (R.remaining from.new) (take n room.new)) }
 {
+    // kept: a reader says how many bytes it put into the rest of the room, so that the place goes on by that
     let mut n = 0;
     while n < room.len() {
         match from.read(&mut room[n..]) {
