@@ -1,6 +1,6 @@
 -- A collector in a block of bytes that C lends (docs/ABI.md): the room for the bytes so far, their number in two bytes, high byte
 -- first, and the over-full mark, 0 or 1. `size` is the limit of a text, `cap` that of a list.
-use Rattle.std.specs.Prelude.{if◌then◌else◌, ℕ, ◌+◌, ◌*◌, ◌/◌, ◌%◌, Bool, true, ◌&&◌, [], ◌∷◌, ◌++◌, ◌≡◌, eqb, leb, length, take, get_or, Option, None, Some}
+use Rattle.std.specs.Prelude.{if◌then◌else◌, ℕ, ◌+◌, ◌*◌, ◌/◌, ◌%◌, Bool, true, false, ◌&&◌, [], ◌∷◌, ◌++◌, ◌≡◌, eqb, leb, length, take, get_or, Option, None, Some}
 use Rattle.lexis.specs.Text.{Text}
 use Rattle.meaning.specs.Ordinary.{refused}
 use Rattle.meaning.specs.declared.Reading.{Reading}
@@ -8,6 +8,7 @@ use Rattle.meaning.specs.declared.Refusal.TheVariants.{NotNormal}
 use Rattle.collector.specs.declared.Collector.{Collector}
 use Rattle.collector.specs.Collecting.{in_order, fresh, fed, answered}
 use Rattle.numbers.specs.Numbers.{flag_number}
+use Rattle.capi.specs.declared.collect.LastBytes.{LastBytes}
 
 -- a block of the right size, with a mark that is one
 abbrev pub formed : ℕ → Text → Bool
@@ -49,3 +50,7 @@ pub record Formed (size : ℕ) (b : Text) (n : ℕ) (o : Bool) : Type 0 where
   pub form : formed size b ≡ true
   pub len : n ≡ (of_block size b).len
   pub over : o ≡ (of_block size b).over
+
+abbrev pub LastRead : ℕ → Text → Option LastBytes → Type 0
+LastRead size b (Some l) = Formed size b l.len l.over
+LastRead size b None = formed size b ≡ false

@@ -2,7 +2,7 @@
 // kept: C lends one block of bytes, so that number and mark are read off it, and no struct holds them beside the bytes
 ghost use Rattle.std.specs.Prelude.{◌+◌, ◌*◌, ◌≤◌, ◌++◌, ◌≡◌, length, take};
 ghost use Rattle.numbers.specs.Numbers.{in_numbers};
-ghost use Rattle.capi.specs.Block.{formed, Formed, last_bytes, lent, feed_number, fed_block, read_block, ended_block};
+ghost use Rattle.capi.specs.Block.{formed, Formed, LastRead, last_bytes, lent, feed_number, fed_block, read_block, ended_block};
 
 use collector::{Refused, SIZE};
 use meaning::{Reading, Refusal, refuse};
@@ -23,6 +23,26 @@ fn two_bytes(high: u8, low: u8) -> usize
     ensures { result ≡ high * 256 + low }
 {
     usize::from(u16::from_be_bytes([high, low]))
+}
+
+// What stands behind the bytes: their number, and the mark.
+#[derive(Clone, Copy)]
+struct LastBytes {
+    len: usize,
+    over: bool,
+}
+
+// Number and mark of a block that has the form.
+fn read_last(block: &[u8]) -> Option<LastBytes>
+    ensures { LastRead 1024 block.now result }
+{
+    if !formed(block) {
+        return None;
+    }
+    Some(LastBytes {
+        len: two_bytes(block[SIZE], block[SIZE + 1]),
+        over: block[SIZE + 2] == 1,
+    })
 }
 
 // Lays number and mark behind the bytes.
@@ -75,12 +95,10 @@ pub extern "C" fn typetext_feed(block: &mut [u8], piece: &[u8]) -> u8
     ensures { (result ≡ feed_number (lent 1024 block.old))
         × (block.new ≡ fed_block 1024 block.old piece.now (lent 1024 block.old)) }
 {
-    if !formed(block) {
+    let Some(last) = read_last(block) else {
         return Refused::NotInOrder as u8;
-    }
-    let len = two_bytes(block[SIZE], block[SIZE + 1]);
-    let over = block[SIZE + 2] == 1;
-    feed_formed(block, len, over, piece)
+    };
+    feed_formed(block, last.len, last.over, piece)
 }
 
 // The end: the ordinary reader's answer on the joined bytes, and a fresh block; or 6 and the block as it was.
@@ -89,10 +107,8 @@ pub extern "C" fn typetext_end(block: &mut [u8]) -> TypetextReading
     ensures { (result ≡ in_numbers (read_block 8 1024 (lent 1024 block.old)))
         × (block.new ≡ ended_block 1024 block.old (lent 1024 block.old)) }
 {
-    if !formed(block) {
+    let Some(last) = read_last(block) else {
         return in_numbers(refuse(Refusal::NotNormal, 0));
-    }
-    let len = two_bytes(block[SIZE], block[SIZE + 1]);
-    let over = block[SIZE + 2] == 1;
-    in_numbers(end_formed(block, len, over))
+    };
+    in_numbers(end_formed(block, last.len, last.over))
 }
