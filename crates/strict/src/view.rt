@@ -29,7 +29,7 @@ pub(crate) struct Last {
 }
 
 // What follows the word that opens a tensor view or, where it is `led`, a padding.
-// kept: lent as one, the lists would want a clause for each that stays as it was
+// kept: `sight` of specs/Views.antt takes the flag; and lent as one, the lists would want a clause for each that stays as it was
 pub(crate) fn read_sight(
     s: &[u8],
     at: usize,
