@@ -72,18 +72,11 @@ parse_one_one κs a x y s t p q = list_one (p ∙ sym q)
 
 -- ── dimensions, and what follows them ──
 
-module _ {w : ℕ} {s : Text} {x y : Front} (p : Fronted w s x) (q : Fronted w s y) where
-  dims_one : x.dims ≡ y.dims
-  dims_one = list_one (p.dims ∙ sym q.dims)
+fronted_one : {w : ℕ} {s : Text} {x y : Front} → Fronted w s x → Fronted w s y → ◌≡◌ {A = Listing (List ℤ) × Text} (x.dims, x.rest.now) (y.dims, y.rest.now)
+fronted_one p q = let l = list_one (p.dims ∙ sym q.dims) in let r = p.part ∙ sym q.part in λ i. (l i, r i)
 
-  rest_one : x.rest.now ≡ y.rest.now
-  rest_one = p.part ∙ sym q.part
-
-pub parse_front_dims_one : Alike (λ κs x. x.dims) parse-front.Post
-parse_front_dims_one κs a x y s t p q = dims_one p q
-
-pub parse_front_rest_one : Alike (λ κs x. x.rest.now) parse-front.Post
-parse_front_rest_one κs a x y s t p q = rest_one p q
+pub parse_front_one : Alike {A = Listing (List ℤ) × Text} (λ κs x. (x.dims, x.rest.now)) parse-front.Post
+parse_front_one κs a x y s t p q = fronted_one p q
 
 -- ── for every array of entries ──
 
