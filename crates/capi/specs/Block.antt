@@ -51,6 +51,7 @@ pub record Formed (size : ℕ) (b : Text) (n : ℕ) (o : Bool) : Type 0 where
   pub len : n ≡ (of_block size b).len
   pub over : o ≡ (of_block size b).over
 
+-- the same, where it may lack the form
 abbrev pub LastRead : ℕ → Text → Option LastBytes → Type 0
 LastRead size b (Some l) = Formed size b l.len l.over
 LastRead size b None = formed size b ≡ false

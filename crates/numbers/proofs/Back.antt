@@ -15,7 +15,8 @@ use Rattle.meaning.specs.declared.Padding.TheVariants.{Absent, Zero, NegZero, Na
 use Rattle.meaning.specs.declared.Reading.{Reading}
 use Rattle.meaning.specs.declared.Record.{Record}
 use Rattle.numbers.specs.declared.TypetextRecord.{TypetextRecord}
-use Rattle.numbers.specs.Numbers.{kind_number, scalar_number, padding_number, flag_number, nth, kinds, scalars, paddings, flags, kind_of, scalar_of, padding_of, flag_of, in_numbers, record_numbers, of_numbers, ◌>>=◌}
+use Rattle.numbers.specs.Numbers.{kind_number, scalar_number, padding_number, flag_number, nth, kinds, scalars, paddings, flags, kind_of, scalar_of, padding_of, flag_of, in_numbers, record_numbers, of_numbers}
+use Rattle.meaning.specs.Written.{◌>>=◌}
 
 kind_back : (k : Kind) → kind_of (kind_number k) ≡ Some k
 kind_back K.Scalar = refl

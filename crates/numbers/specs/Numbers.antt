@@ -3,6 +3,7 @@ use Rattle.std.specs.Prelude.{ℕ, zero, suc, Bool, true, false, List, [], ◌�
 use Rattle.scalars.specs.declared.scalar.Scalar.{Scalar}
 use Rattle.scalars.specs.declared.scalar.Scalar.TheVariants.{I1, I4, I8, I16, I32, I64, F16, BF16, F32, TF32, F64, F8E4M3FN, F8E5M2, F8E8M0FNU, F4E2M1FN, F8E5M3FNU}
 use Rattle.meaning.specs.Refusals.{number}
+use Rattle.meaning.specs.Written.{◌>>=◌}
 use Rattle.meaning.specs.declared.Kind.{Kind}
 use Rattle.meaning.specs.declared.Kind.TheVariants as K
 use Rattle.meaning.specs.declared.Note.{Note}
@@ -119,12 +120,6 @@ padding_of n = nth paddings n
 
 abbrev pub flag_of : ℕ → Option Bool
 flag_of n = nth flags n
-
--- what `?` does: the rest, where there is a value
-infixl 20 ◌>>=◌
-abbrev pub ◌>>=◌ : {A B : Type 0} → Option A → (A → Option B) → Option B
-None >>= f = None
-Some a >>= f = f a
 
 -- the record with these numbers, if there is one
 unfoldable pub of_numbers : TypetextRecord → Option Record

@@ -1,14 +1,17 @@
 // The name of a scalar.
 ghost use Rattle.std.specs.Prelude.{◌≡◌, Some};
 ghost use Rattle.scalars.specs.Names.{scalar_name};
+ghost use Rattle.meaning.specs.Strict.{word};
+ghost use Rattle.meaning.specs.Written.{first};
 
 use scalars::Scalar;
 
-// A scalar's name: the name reader gives the scalar back.
+// A scalar's name, in its first spelling: that in which it is written. The name reader gives the scalar back.
 // kept: `Scalar` is another crate's, so that `Display` wants a wrapper and is no plainer
 #[tactic(auto, unfolding(scalars::specs::Names::scalar_name))]
 pub fn scalar_name(s: Scalar) -> &'static str
-    ensures { scalar_name result.now ≡ Some s }
+    ensures spelling { result.now ≡ word (first s) }
+    ensures back { scalar_name result.now ≡ Some s }
 {
     match s {
         Scalar::I1 => "i1",
