@@ -54,6 +54,13 @@ fn run(text: &[u8], x: u8, from: usize, most: u64) -> Option<Part<u64>>
     ensures { Ran x (drop from text.now) from most result }
 {
     let mut rest = &text[from..];
+    // Leading zeros say nothing, and are passed without counting.
+    while let Some((b, behind)) = rest.split_first() {
+        if *b != b'0' {
+            break;
+        }
+        rest = behind;
+    }
     let mut n: u64 = 0;
     while let Some((b, behind)) = rest.split_first() {
         let b = *b;
