@@ -23,12 +23,12 @@ module _ (s : Text) (r : Reading) (e : Strictly 8 1024 s r) where
   answered : (r.refusal ≡ NotStrict → ⊥) → r ≡ ordinary 8 1024 s
   answered n = sym (strict_ordinary 8 1024 s r e n)
 
-  open_still : r.refusal ≡ NotStrict → ported s ≡ ordinary 8 1024 s
+  open_still : number r.refusal ≡ 5 → ported s ≡ ordinary 8 1024 s
   unfolding ordinary refused
   open_still n = by (leb (length s) 1024) e
     where
       ascii : (o : Option ℕ) → ReadAscii 8 s o r → judged 8 (parse s) ≡ read_ascii 8 s o
-      ascii (Some place) h = let z : number r.refusal ≡ 2 = ap (λ (x : Reading). number x.refusal) h in let k : number r.refusal ≡ 5 = ap number n in let f : ⊥ = omega arith in absurd f
+      ascii (Some place) h = let z : number r.refusal ≡ 2 = ap (λ (x : Reading). number x.refusal) h in let f : ⊥ = omega arith in absurd f
       ascii None h = refl
 
       by : (b : Bool) → elim b as (λ _. Type 0) [ true ↦ ReadAscii 8 s (high_from 0 s) r | false ↦ r ≡ refused 8 TooLong 0 ]
@@ -42,5 +42,9 @@ module _ (s t : Text) (q : t ≡ s) (r : Reading) (e : Strictly 8 1024 t r) wher
   pub settled : (r.refusal ≡ NotStrict → ⊥) → r ≡ ordinary 8 1024 s
   settled n = answered t r e n ∙ ap (ordinary 8 1024) q
 
-  pub left_open : r.refusal ≡ NotStrict → ported t ≡ ordinary 8 1024 s
+  pub left_open : number r.refusal ≡ 5 → ported t ≡ ordinary 8 1024 s
   left_open n = open_still t r e n ∙ ap (ordinary 8 1024) q
+
+  -- the same, as the code asks it
+  pub left_not_strict : r.refusal ≡ NotStrict → ported t ≡ ordinary 8 1024 s
+  left_not_strict n = left_open (ap number n)

@@ -6,7 +6,7 @@ use Rattle.ordinary.proofs.parse.Goals as goal
 
 pub returns-in-NotStrict : goal.returns-in-NotStrict
 returns-in-NotStrict c = let s = c.args.text.now in let p = c.parse_strict-r in
-    c.parse.ensures ∙ L.left_open s _ (rest s 0) p.result p.ensures c.in-NotStrict.is
+    c.parse.ensures ∙ L.left_not_strict s _ (rest s 0) p.result p.ensures c.in-NotStrict.is
 
 pub returns-in_default : goal.returns-in_default
 returns-in_default c = let s = c.args.text.now in let p = c.parse_strict-r in
