@@ -5,11 +5,15 @@ use Prim.Native.Nat.{ℕ}
 use native.Mathlib.Omega.{arith}
 use Rattle.lexis.specs.Text.{Text}
 use denote.RattleType.{RattleType}
+use denote.Builtin.{i32, i64}
+use denote.Array.{Array}
 use denote.Param.Laws.{Laws, IsCopy}
 use mir.Syntax.{Dict}
 use Rattle.std.specs.declared.clone.Clone as Clone
 use Rattle.numerals.specs.declared.integer.Integer as Integer
 use Rattle.lists.specs.declared.entries.Entries as Entries
+use Rattle.lists.specs.contracts.entries.ArrayI64CAPEntries.TheImpl as I64s
+use Rattle.lists.specs.contracts.entries.ArrayI32CAPEntries.TheImpl as I32s
 use Rattle.lexis.proofs.Unique.{One, Alike}
 use Rattle.meaning.specs.Found.{Entry, counted}
 use Rattle.lists.specs.Laid.{Laid, said, list, listed, Fronted}
@@ -85,3 +89,19 @@ module _ (A E : RattleType) (la : Laws A) (le : Laws E) (ca : IsCopy A) (ce : Is
     (integer : Integer.Ghosts E.Denot) (e : Dict) (clone' : Clone.Ghosts E.Denot) (e' : Dict) where
   pub none_one : Alike (λ κs x. listed entries.values x) (none.Post A E la le ca ce entries d clone d' integer e clone' e')
   none_one κs a x y s t p q = p ∙ sym q
+
+  -- the list whole, where no two arrays hold the same integers
+  pub none_whole_one : ((x y : A.Denot) → entries.values x ≡ entries.values y → x ≡ y) → One (none.Post A E la le ca ce entries d clone d' integer e clone' e')
+  none_whole_one k κs a x y s t p q = let l = none_one κs a x y s t p q in let v = k x.values y.values (ap (λ (m : Laid). m.values) l) in λ i. record { values = v i; row = (l i).row }
+
+-- ── at [i64; CAP] and at [i32; CAP], by their own ghosts ──
+
+module _ (la : Laws (Array i64 8)) (le : Laws i64) (ca : IsCopy (Array i64 8)) (ce : IsCopy i64) (d : Dict) (clone : Clone.Ghosts (List ℤ)) (d' : Dict)
+    (integer : Integer.Ghosts ℤ) (e : Dict) (clone' : Clone.Ghosts ℤ) (e' : Dict) where
+  pub none64_one : One (none.Post (Array i64 8) i64 la le ca ce I64s.ghosts d clone d' integer e clone' e')
+  none64_one = none_whole_one (Array i64 8) i64 la le ca ce I64s.ghosts d clone d' integer e clone' e' (λ x y p. p)
+
+module _ (la : Laws (Array i32 8)) (le : Laws i32) (ca : IsCopy (Array i32 8)) (ce : IsCopy i32) (d : Dict) (clone : Clone.Ghosts (List ℤ)) (d' : Dict)
+    (integer : Integer.Ghosts ℤ) (e : Dict) (clone' : Clone.Ghosts ℤ) (e' : Dict) where
+  pub none32_one : One (none.Post (Array i32 8) i32 la le ca ce I32s.ghosts d clone d' integer e clone' e')
+  none32_one = none_whole_one (Array i32 8) i32 la le ca ce I32s.ghosts d clone d' integer e clone' e' (λ x y p. p)
