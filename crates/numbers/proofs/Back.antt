@@ -16,7 +16,7 @@ use Rattle.meaning.specs.declared.Reading.{Reading}
 use Rattle.meaning.specs.declared.Record.{Record}
 use Rattle.numbers.specs.declared.TypetextRecord.{TypetextRecord}
 use Rattle.numbers.specs.Numbers.{kind_number, scalar_number, padding_number, flag_number, nth, kinds, scalars, paddings, flags, kind_of, scalar_of, padding_of, flag_of, in_numbers, record_numbers, of_numbers}
-use Rattle.meaning.specs.Written.{◌>>=◌}
+use Rattle.numbers.proofs.Records.{five, built}
 
 kind_back : (k : Kind) → kind_of (kind_number k) ≡ Some k
 kind_back K.Scalar = refl
@@ -88,34 +88,6 @@ from_zero : {A : Type 0} (f : A → ℕ) (xs : List A) (n : ℕ) → Placed f 0 
 from_zero f xs n h =
     let p : n + 0 ≡ n = omega arith in
     subst (λ (m : ℕ). Numbered f m (nth xs n)) p (place f xs 0 n h)
-
--- five answers together
-abbrev Five : Type 0
-Five = Kind → Scalar → Padding → Bool → Bool → Record
-
-abbrev five : Five → Option Kind → Option Scalar → Option Padding → Option Bool → Option Bool → Option Record
-five F k e p f m = k >>= λ k. e >>= λ e. p >>= λ p. f >>= λ f. m >>= λ m. Some (F k e p f m)
-
--- the record of five cases and what else is sent
-abbrev built : TypetextRecord → Five
-built n k e p f m = record {
-  kind = k;
-  element = e;
-  pointer = f;
-  attribute = m;
-  shape = n.shape;
-  shape_len = n.shape_len;
-  strides = n.strides;
-  strides_len = n.strides_len;
-  tile = n.tile;
-  tile_len = n.tile_len;
-  map = n.map;
-  map_len = n.map_len;
-  traversal = n.traversal;
-  traversal_len = n.traversal_len;
-  sparse = n.sparse;
-  padding = p;
-}
 
 abbrev Only : TypetextRecord → Option Record → Type 0
 Only n None = Unit {0}
