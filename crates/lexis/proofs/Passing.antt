@@ -5,6 +5,7 @@ use mathlib.Core.Bool.{Bool, true, false, ◌&&◌, ◌||◌}
 use mathlib.Core.List.{List, [], ◌∷◌}
 use Prim.Native.Nat.{ℕ, zero, suc, ◌+◌, ◌-◌, ◌≤◌, ◌<◌}
 use native.Mathlib.Nat.{add-zero}
+use native.Mathlib.Numerals.{add-one}
 use native.Mathlib.Omega.{arith}
 use lib.Dec.{eqb}
 use lib.ListN.{length, take, drop, get_or, length-drop, drop_of_length-le}
@@ -14,6 +15,25 @@ use Rattle.lexis.proofs.Lists.{view, rest}
 use Rattle.lexis.proofs.Seeking.{never, shifted, miss, until_within}
 
 module _ (p : ℕ → Bool) where
+  or_last : (a b c : Bool) → a || (b || c) ≡ (a || b) || c
+  or_last true b c = refl
+  or_last false b c = refl
+
+  or_false : (a : Bool) → a || false ≡ false || a
+  or_false true = refl
+  or_false false = refl
+
+  one_more : (l : List ℕ) (j : ℕ) → j < length l → some_of p (take (suc j) l) ≡ some_of p (take j l) || p (get_or l j 0)
+  one_more [] j h = let f : ⊥ = omega arith in absurd f
+  one_more (x ∷ l) zero h = or_false (p x)
+  one_more (x ∷ l) (suc j) h = ap (λ (z : Bool). p x || z) (one_more l j (omega arith)) ∙ or_last (p x) (some_of p (take j l)) (p (get_or l j 0))
+
+  -- with one byte more
+  pub grown : (s : List ℕ) (m j : ℕ) → m + j < length s → some_of p (take (j + 1) (drop m s)) ≡ some_of p (take j (drop m s)) || p (get_or s (m + j) 0)
+  grown s m j h = ap (λ (n : ℕ). some_of p (take n (drop m s))) (add-one j)
+      ∙ one_more (drop m s) j (let l = length-drop m s in omega arith)
+      ∙ ap (λ (c : ℕ). some_of p (take j (drop m s)) || p c) (get_or-drop m s j 0)
+
   skip : (k : ℕ) (l : List ℕ) → k ≤ length l → some_of p (take k l) ≡ false → length (until p l) ≡ k + length (until p (drop k l))
   skip zero l h e = omega arith
   skip (suc k) [] h e = let f : ⊥ = omega arith in absurd f
