@@ -59,7 +59,7 @@ pub fn feed_parts(
         return Ok(());
     }
     let end = *len + piece.len();
-    bytes[*len..end].copy_from_slice(piece);
+    lexis::lay(&mut bytes[*len..end], piece);
     *len = end;
     Ok(())
 }

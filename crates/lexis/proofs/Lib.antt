@@ -4,5 +4,6 @@ pub mod Seeking
 pub mod Passing
 pub mod Trimming
 pub mod Splitting
+pub mod Rooms
 pub mod Examples
 pub mod Unique

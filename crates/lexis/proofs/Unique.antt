@@ -11,6 +11,7 @@ use Rattle.lexis.proofs.pattern.U8Pattern.matches.Reads as u8-matches
 use Rattle.lexis.proofs.pattern.WhitePattern.matches.Reads as white-matches
 use Rattle.lexis.proofs.pattern.InkPattern.matches.Reads as ink-matches
 use Rattle.lexis.proofs.pattern.OutsidePattern.matches.Reads as outside-matches
+use Rattle.lexis.proofs.room.lay.Reads as lay
 use Rattle.lexis.proofs.text.same.Reads as same
 use Rattle.lexis.proofs.text.begins.Reads as begins
 use Rattle.lexis.proofs.text.find.Reads as find
@@ -85,3 +86,8 @@ module _ (T : RattleType) (laws : Laws T) (copy : IsCopy T) (pattern : Pattern.G
 
   pub trim_end_matches_one : Alike (λ κs x. x.now) (trim-end-matches.Post T laws copy pattern d clone e)
   trim_end_matches_one κs a x y s t p q = p ∙ sym q
+
+-- ── a room that is lent ──
+
+pub lay_one : Left (λ κs s. s.0.now) lay.Post
+lay_one κs a x y s t p q = p ∙ sym q

@@ -3,10 +3,12 @@
 
 mod blocks;
 mod pattern;
+mod room;
 mod text;
 
 pub use blocks::seek;
 pub use pattern::{Ink, Outside, Pattern, White};
+pub use room::lay;
 pub use text::{
     begins, contains, find, find_by, same, trim, trim_end_matches, trim_start_matches, until,
 };

@@ -35,7 +35,7 @@ pub(crate) fn copy(s: &[u8], room: &mut [u8], at: usize) -> usize
     ensures { (result ≡ at + length s.now) × (take result room.new ≡ take at room.old ++ s.now) }
 {
     let end = at + s.len();
-    room[at..end].copy_from_slice(s);
+    lexis::lay(&mut room[at..end], s);
     end
 }
 

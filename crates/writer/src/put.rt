@@ -52,7 +52,7 @@ impl Draft {
         ensures { self.new ≡ self.old ++ what.now }
     {
         let end = self.len + what.len();
-        self.bytes[self.len..end].copy_from_slice(what);
+        lexis::lay(&mut self.bytes[self.len..end], what);
         self.len = end;
     }
 

@@ -2,9 +2,11 @@
 -- limit only zeros are left; within it the piece stands behind what was held.
 use borrow.Author.Rules.{rules}
 use native.Mathlib.Omega.{arith}
-use Prim.Native.Nat.{◌+◌, ◌≤◌}
-use mathlib.Core.Path.{sym, ◌∙◌}
-use lib.ListN.{length}
+use Prim.Native.Nat.{◌+◌, ◌-◌, ◌≤◌}
+use mathlib.Core.Path.{◌≡◌, sym, ◌∙◌}
+use lib.ListN.{length, take, drop, length-drop}
+use lib.Seq.{length-take-le}
+use Rattle.lexis.proofs.Rooms.{laid_whole}
 use Rattle.collector.specs.Parts.{of_parts}
 use Rattle.collector.proofs.Order as L
 use Rattle.collector.proofs.parts.feed_parts.Goals as goal
@@ -26,8 +28,8 @@ returns-then-len-piece c = let a = c.args in let y = sym c.in_order.ensures ∙ 
     (L.passes 1024 a.bytes.now a.len.now a.over.now a.piece.now y c.fill.new.self c.if-over.false (search rules)
     (L.cleared 1024 a.bytes.now (L.ordered 1024 a.bytes.now a.len.now a.over.now y).full (c.fill.ensures.after (λ z h. h))))
 
-pub slice_bounds-copy_from_slice-end : goal.slice_bounds-copy_from_slice-end
-slice_bounds-copy_from_slice-end c =
+pub slice_bounds-lay-end : goal.slice_bounds-lay-end
+slice_bounds-lay-end c =
     let a = c.args in
     let o = L.ordered 1024 a.bytes.now a.len.now a.over.now (sym c.in_order.ensures ∙ c.if-not-in_order.false) in
     let h = o.bound in
@@ -37,5 +39,11 @@ slice_bounds-copy_from_slice-end c =
 
 pub returns : goal.returns
 returns c = let a = c.args in let y = sym c.in_order.ensures ∙ c.if-not-in_order.false in
-    L.feed_taken 8 1024 (of_parts a.bytes.now a.len.now a.over.now) a.piece.now y
-    (L.joins 1024 a.bytes.now a.len.now a.over.now a.piece.now y _ c.if-over.false (search rules) (L.placed a.bytes.now a.piece.now c.copy_from_slice.new.self a.len.now c.copy_from_slice.ensures.after))
+    let n = a.len.now in let p = a.piece.now in let b = a.bytes.now in
+    let o = L.ordered 1024 b n a.over.now y in
+    let h = o.bound in
+    let k = o.full in
+    let d : length (drop n b) ≡ length b - n = length-drop n b in
+    let m : length (take (n + length p - n) (drop n b)) ≡ length p = length-take-le (n + length p - n) (drop n b) (omega arith) ∙ omega arith in
+    L.feed_taken 8 1024 (of_parts b n a.over.now) p y
+    (L.joins 1024 b n a.over.now p y _ c.if-over.false (search rules) (L.placed b p c.lay.new.room n (laid_whole _ _ c.lay.ensures m)))
