@@ -8,6 +8,7 @@ mod row;
 
 use back::Back;
 use row::Tried;
+use sheet::Walker;
 use std::fs;
 use std::io::{self, Print};
 use std::rt::Files;
@@ -45,11 +46,12 @@ fn counted(t: Totals, tried: Tried) -> Totals {
     }
 }
 
-// A row is a line that is no comment: text, tab, answer.
+// A row is a line that is no comment: text, tab, answer. A part of the list is no longer than a sheet.
 fn replay<R: Print>(rt: &R, list: &[u8], before: Totals) -> io::Result<Totals> {
     let mut totals = before;
-    for line in list.split(|b| *b == b'\n') {
-        match line {
+    let lines = Walker::new(list);
+    for line in lines {
+        match lines.row(line) {
             [] | [b'#', ..] => {}
             row => totals = counted(totals, row::try_row(rt, row)?),
         }
