@@ -1,6 +1,5 @@
 -- The part after the dimensions is the end of the text: its place is the text's length less its own.
 use Rattle.std.specs.Prelude.{if◌then◌else◌}
-use Prim.Native.Char.{code}
 use mathlib.Core.Path.{◌≡◌, refl, sym, ap, subst, ◌∙◌}
 use mathlib.Core.Bool.{Bool, true, false}
 use mathlib.Core.List.{List, [], ◌∷◌}
@@ -10,8 +9,8 @@ use lib.Dec.{eqb}
 use lib.ListN.{length, drop}
 use Rattle.lexis.specs.Text.{Text, onto_first, split}
 use Rattle.meaning.specs.Parts.{last}
-use Rattle.lists.specs.Laid.{Fronted}
-use Rattle.lists.specs.declared.list.Front.{Front}
+use Rattle.lists.specs.Push.{Ahead}
+use Rattle.lists.specs.declared.list.Leading.{Leading}
 
 -- t is the end of s
 pub record Ends (s t : Text) : Type 0 where
@@ -47,7 +46,7 @@ parted x (b ∷ s) = by (eqb x b) (split x s) (parted x s)
     by false (p ∷ []) h = ap (λ (t : Text). b ∷ t) h
     by false (p ∷ q ∷ ps) h = later b s (last (q ∷ ps)) h
 
-pub last_ends : (x : ℕ) (s : Text) → Ends s (last (split x s))
+last_ends : (x : ℕ) (s : Text) → Ends s (last (split x s))
 last_ends x s = of (split x s) (parted x s)
   where
     of : (ps : List Text) → Parted s ps → Ends s (last ps)
@@ -56,5 +55,5 @@ last_ends x s = of (split x s) (parted x s)
     of (p ∷ q ∷ ps) h = h
 
 -- what stands after the dimensions
-pub rest_ends : {w : ℕ} {s : Text} {r : Front} → Fronted w s r → Ends s r.rest.now
-rest_ends {s = s} f = subst (Ends s) (sym f.part) (last_ends (code "x") s)
+pub rest_ends : {x : ℕ} {s : Text} {r : Leading} → Ahead x s r → Ends s r.rest.now
+rest_ends {x = x} {s = s} a = subst (Ends s) (sym a.part) (last_ends x s)

@@ -1,8 +1,9 @@
 -- Each public function's contract leaves one answer: two answers that meet the generated reading of it, for the same arguments, are the same.
--- What is said of an entry or of a list tells it whole; a slice is compared by what it holds.
+-- What is said of an entry or of a list tells it whole; a place in a text is told by what stands there and that it is inside.
 use mathlib.Core.Path.{◌≡◌, sym, ap, ◌∙◌}
-use Prim.Native.Nat.{ℕ}
+use Prim.Native.Nat.{ℕ, ◌-◌}
 use native.Mathlib.Omega.{arith}
+use lib.ListN.{length, length-drop}
 use Rattle.lexis.specs.Text.{Text}
 use denote.RattleType.{RattleType}
 use denote.Builtin.{i32, i64}
@@ -74,13 +75,17 @@ parse_smalls_one κs a x y s t p q = list_one (p ∙ sym q)
 pub parse_one_one : One parse_one.Post
 parse_one_one κs a x y s t p q = list_one (p ∙ sym q)
 
--- ── dimensions, and what follows them ──
+-- ── dimensions with a place ──
 
-fronted_one : {w : ℕ} {s : Text} {x y : Front} → Fronted w s x → Fronted w s y → ◌≡◌ {A = Listing (List ℤ) × Text} (x.dims, x.rest.now) (y.dims, y.rest.now)
-fronted_one p q = let l = list_one (p.dims ∙ sym q.dims) in let r = p.part ∙ sym q.part in λ i. (l i, r i)
+fronted_one : (w : ℕ) (s : Text) {x y : Front} → Fronted w s x → Fronted w s y → x ≡ y
+fronted_one w s {x} {y} p q =
+    let l = list_one (p.dims ∙ sym q.dims) in
+    let d : length s - x.last ≡ length s - y.last = sym (length-drop x.last s) ∙ ap length (p.part ∙ sym q.part) ∙ length-drop y.last s in
+    let k : x.last ≡ y.last = omega (arith, p.inside, q.inside) in
+    λ i. record { dims = l i; last = k i }
 
-pub parse_front_one : Alike {A = Listing (List ℤ) × Text} (λ κs x. (x.dims, x.rest.now)) parse-front.Post
-parse_front_one κs a x y s t p q = fronted_one p q
+pub parse_front_one : One parse-front.Post
+parse_front_one κs a x y s t p q = fronted_one 8 _ p q
 
 -- ── for every array of entries ──
 

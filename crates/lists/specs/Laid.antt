@@ -1,6 +1,6 @@
 -- A clause as the readers carry it: the first entries in an array, and a row that tells of all: their true number, whether the clause stands,
 -- and the tally of those that fell back.
-use Rattle.std.specs.Prelude.{ℕ, Bool, true, false, List, ◌≡◌, ℤ, length}
+use Rattle.std.specs.Prelude.{ℕ, ◌≤◌, Bool, true, false, List, ◌≡◌, ℤ, length, drop}
 use Prim.Native.Char.{code}
 use mathlib.Core.List as L
 use Rattle.lexis.specs.Text.{Text, split}
@@ -56,7 +56,8 @@ list = listed (λ l. l)
 abbrev pub smalls : ℤ → List Text → Clause
 smalls d ps = stands (L.map (small d) ps)
 
--- the dimensions of s before its last part at `x`, and that part
+-- the dimensions of s before its last part at `x`, and the place where that part begins
 pub record Fronted (cap : ℕ) (s : Text) (r : Front) : Type 0 where
   pub dims : list r.dims ≡ laid cap (dimensions (front (split (code "x") s)))
-  pub part : r.rest.now ≡ last (split (code "x") s)
+  pub part : drop r.last s ≡ last (split (code "x") s)
+  pub inside : r.last ≤ length s

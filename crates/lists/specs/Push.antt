@@ -5,7 +5,7 @@ use Rattle.meaning.specs.Found.{Came, read, fell, Entry}
 use Rattle.meaning.specs.Parts.{last, front}
 use Rattle.meaning.specs.Tile.{dimensions}
 use Rattle.lists.specs.Laid.{Laid, laid, list}
-use Rattle.lists.specs.declared.list.Front.{Front}
+use Rattle.lists.specs.declared.list.Leading.{Leading}
 use Rattle.lists.specs.declared.row.Row.{Row}
 use Rattle.lists.specs.declared.row.Tally.{Tally}
 
@@ -32,7 +32,7 @@ push l e = put l e.value (told l.row.tally e.came)
 abbrev pub filled_row : ℕ → Row
 filled_row n = record { len = n; stood = false; tally = record { fell = 0 } }
 
--- as `Fronted`, for any byte x
-pub record Ahead (x : ℕ) (s : Text) (r : Front) : Type 0 where
+-- the dimensions of s before its last part at the byte x, and that part
+pub record Ahead (x : ℕ) (s : Text) (r : Leading) : Type 0 where
   pub dims : list r.dims ≡ laid 8 (dimensions (front (split x s)))
   pub part : r.rest.now ≡ last (split x s)

@@ -59,15 +59,22 @@ impl<A: Entries> Listing<A> {
     }
 }
 
-// Dimensions, and what follows the last of them.
+// Dimensions, and where what follows the last of them begins.
+// kept: a slice would keep the text lent as long as the answer lives
 #[derive(Clone, Copy)]
-pub struct Front<'a> {
+pub struct Front {
     pub dims: Dims,
-    pub rest: &'a [u8],
+    pub last: usize,
+}
+
+// Dimensions, and what follows the last of them.
+struct Leading<'a> {
+    dims: Dims,
+    rest: &'a [u8],
 }
 
 // The dimensions before the last byte `x` of `s`, and the part after it.
-fn before_last(s: &[u8], x: u8) -> Front<'_>
+fn before_last(s: &[u8], x: u8) -> Leading<'_>
     ensures { Ahead x s.now result }
 {
     let mut rest = s;
@@ -76,7 +83,7 @@ fn before_last(s: &[u8], x: u8) -> Front<'_>
         let p = numerals::parse_part(rest, x);
         let k = p.len;
         if rest.len() <= k {
-            return Front { dims, rest };
+            return Leading { dims, rest };
         }
         let v = p.value;
         dims.push(dim_of(&rest[..k], v));
@@ -103,11 +110,15 @@ pub fn parse_dims(s: &[u8], x: u8) -> Dims
     }
 }
 
-// The dimensions before the last `x` of `s`, and the part after it.
-pub fn parse_front(s: &[u8]) -> Front<'_>
+// The dimensions before the last `x` of `s`, and where the part after it begins.
+pub fn parse_front(s: &[u8]) -> Front
     ensures { Fronted 8 s.now result }
 {
-    before_last(s, b'x')
+    let Leading { dims, rest } = before_last(s, b'x');
+    Front {
+        dims,
+        last: s.len() - rest.len(),
+    }
 }
 
 // The 32-bit entries between the bytes `x` of `s`; an unreadable one falls back on `default`.

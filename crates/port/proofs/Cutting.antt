@@ -51,8 +51,8 @@ abbrev pub behind : Text → Text
 behind s = last (split (code "x") s)
 
 module _ (s : Text) {f : Front} (g : Fronted 8 s f) where
-  pub named : {n m : Option Scalar} → n ≡ scalar_name f.rest.now → n ≡ m → scalar_name (behind s) ≡ m
-  named e q = sym (e ∙ ap scalar_name g.part) ∙ q
+  pub named : {n m : Option Scalar} → n ≡ scalar_name (take (length s - f.last) (drop f.last s)) → n ≡ m → scalar_name (behind s) ≡ m
+  named e q = sym (e ∙ ap scalar_name (rest s f.last ∙ g.part)) ∙ q
 
   -- the dimensions that were laid are the rank
   pub ranked : (strides : Option Text) {l : Laid} → l ≡ laid 8 (strides_of f.dims.row.len strides) → l ≡ laid 8 (strides_of (length (sizes s)) strides)

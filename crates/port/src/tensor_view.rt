@@ -49,7 +49,7 @@ fn tensor_parts(s: &[u8], strides: Option<&[u8]>) -> Option<Tensor>
     ensures { TensorIs result (tensor_parts s.now (option_map (λ t. t.now) strides.entry)) }
 {
     let f = lists::parse_front(s);
-    let element = scalars::parse_scalar(f.rest)?;
+    let element = scalars::parse_scalar(&s[f.last..])?;
     Some(Tensor {
         element,
         shape: f.dims,

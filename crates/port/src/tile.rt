@@ -60,7 +60,7 @@ fn scalar_tile(inner: &[u8], marked: bool) -> Reading
     ensures { result ≡ answered marked (each (carried 8) (tile_by inner.now nowhere)) }
 {
     let f = lists::parse_front(inner);
-    match scalars::parse_scalar(f.rest) {
+    match scalars::parse_scalar(&inner[f.last..]) {
         Some(e) => simple(Kind::Tile, e, false, f.dims, Dims::none(), marked),
         None => refuse(Refusal::NoType, 0),
     }
