@@ -46,7 +46,7 @@ fn counted(t: Totals, tried: Tried) -> Totals {
     }
 }
 
-// A row is a line that is no comment: text, tab, answer. A part of the list is no longer than a sheet.
+// A row is a line that is no comment: text, tab, answer. The room for a part is no longer than a sheet.
 fn replay<R: Print>(rt: &R, list: &[u8], before: Totals) -> io::Result<Totals> {
     let mut totals = before;
     let lines = Walker::new(list);
@@ -72,7 +72,7 @@ fn load<'r, R: Files>(rt: &R, name: &str, room: &'r mut [u8]) -> &'r [u8] {
 
 // One part of the list; a part that can't be opened has no rows.
 fn part<R: Files + Print>(rt: &R, name: &str, before: Totals) -> io::Result<Totals> {
-    let mut room = [0u8; 65536];
+    let mut room = [0u8; sheet::LIMIT];
     replay(rt, load(rt, name, &mut room), before)
 }
 
